@@ -1,0 +1,24 @@
+-- Laws of the definitions, bottom to top; `Cases` has document 01's ten cases.
+pub mod Divisors
+pub mod Grid
+pub mod Rasters
+pub mod Order
+pub mod Counting
+pub mod Seeing
+pub mod Depths
+pub mod Tables
+pub mod Clips
+pub mod Moves
+pub mod Numbers
+pub mod Codes
+pub mod Elements
+pub mod Components
+pub mod Ctu
+pub mod Reader
+pub mod Longest
+pub mod Entries
+pub mod Decisions
+pub mod Judging
+pub mod Spelling
+pub mod Refusing
+pub mod Cases

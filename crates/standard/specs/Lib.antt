@@ -1,0 +1,9 @@
+pub mod Picture
+pub mod Sets
+pub mod Bins
+pub mod Means
+pub mod Samples
+pub mod Table
+pub mod Refusals
+pub mod Reasons
+pub mod Calls

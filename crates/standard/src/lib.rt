@@ -1,0 +1,81 @@
+// The types of the stage. What they mean stands in specs/, which a reader has to believe;
+// the laws of those definitions, and document 01's ten cases, stand in proofs/.
+
+// What a caller says of a picture. The fields hold any number, so that a description that breaks
+// a rule can be handed in, and is refused. `format` is chroma_format_idc.
+pub struct Picture {
+    pub width: u32,
+    pub height: u32,
+    pub ctb: u32,
+    pub format: u8,
+    pub depth: u8,
+    pub luma: bool,
+    pub chroma: bool,
+}
+
+// The description, and the number of the next CTU to be read or written.
+pub struct State {
+    pub picture: Picture,
+    pub next: u32,
+}
+
+// One component's set. Offsets are as coded, before they are scaled to the depth.
+pub enum Offsets {
+    Off,
+    Band {
+        position: u8,
+        o1: i8,
+        o2: i8,
+        o3: i8,
+        o4: i8,
+    },
+    Edge {
+        class: u8,
+        o1: i8,
+        o2: i8,
+        o3: i8,
+        o4: i8,
+    },
+}
+
+// A CTU's set.
+pub struct CtuSet {
+    pub luma: Offsets,
+    pub cb: Offsets,
+    pub cr: Offsets,
+}
+
+// Why a call is refused. `numberOf` in specs/Refusals gives each its number in document 01.
+pub enum Refusal {
+    Description,
+    Length,
+    NoSuchBlock,
+    CountTooLarge,
+    TooEarly,
+    BinsRemain,
+    AllRead,
+    SampleTooLarge,
+    DeliveredBefore,
+    NotReady,
+    FilteredBefore,
+    NoBins,
+    NoRoom,
+    Stored,
+}
+
+// Columns x0 up to and without x1, rows y0 up to and without y1.
+pub struct Rectangle {
+    pub x0: usize,
+    pub x1: usize,
+    pub y0: usize,
+    pub y1: usize,
+}
+
+// What the filter knows of a component: the size of its plane, its bit depth, and how far its
+// offsets are shifted.
+pub struct Layout {
+    pub width: usize,
+    pub height: usize,
+    pub depth: u32,
+    pub shift: u32,
+}

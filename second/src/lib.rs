@@ -1,0 +1,33 @@
+//! The second program: the stage of document 01 (sample adaptive offset) once more, by another method, to judge the
+//! stage that is proved.
+//!
+//! Written from document 01 and ITU-T H.265 (04/2013) 7.3.8.3, 7.4.9.3, 8.7.3 and 9.3.3 alone. Where a receiver would
+//! be quick, this is plain:
+//!
+//! - samples ([`filter`]): every sample of the picture from H.265's own formulas, over `i64`;
+//! - bins ([`bins`]): strings of '0' and '1'; a reader that strips code words, a writer that makes every form and keeps
+//!   the shortest;
+//! - refusals ([`reasons`]): a list of number and predicate in document 01's order; the first that holds is the answer.
+//!
+//! [`stage`] has the six calls, [`world`] drives them on one set of lent buffers, [`vectors`] and [`replay`] put real
+//! pictures through them, [`random`], [`generate`] and [`runs`] make pictures, sets, samples and calls for long runs.
+
+pub mod bins;
+pub mod filter;
+pub mod generate;
+pub mod picture;
+pub mod random;
+pub mod reasons;
+pub mod replay;
+pub mod runs;
+pub mod sets;
+pub mod stage;
+pub mod table;
+pub mod vectors;
+pub mod world;
+
+pub use filter::filter_picture;
+pub use picture::{Picture, State};
+pub use reasons::Refusal;
+pub use sets::{ComponentSet, CtuSet};
+pub use world::{Answer, Call, Value, World, apply};

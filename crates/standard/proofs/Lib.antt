@@ -10,6 +10,7 @@ pub mod Tables
 pub mod Clips
 pub mod Moves
 pub mod Numbers
+pub mod Answers
 pub mod Codes
 pub mod Elements
 pub mod Components
@@ -20,5 +21,6 @@ pub mod Entries
 pub mod Decisions
 pub mod Judging
 pub mod Spelling
+pub mod ShortestOne
 pub mod Refusing
 pub mod Cases

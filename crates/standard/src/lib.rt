@@ -1,5 +1,8 @@
 // The types of the stage. What they mean stands in specs/, which a reader has to believe;
 // the laws of those definitions, and document 01's ten cases, stand in proofs/.
+ghost use mathlib.Core.Path.{_≡_};
+ghost use Prim.Native.Nat.{_<_};
+ghost use Rattle.standard.specs.Calls.{openedState, stateAfter};
 
 // What a caller says of a picture. The fields hold any number, so that a description that breaks
 // a rule can be handed in, and is refused. `format` is chroma_format_idc.
@@ -17,6 +20,29 @@ pub struct Picture {
 pub struct State {
     pub picture: Picture,
     pub next: u32,
+}
+
+impl State {
+    // A picture opened: no CTU is read.
+    pub fn opened(self) -> State
+        ensures { λ r. ⌜ r ≡ openedState self ⌝ }
+    {
+        let picture = self.picture;
+        State { picture, next: 0 }
+    }
+
+    // On to the next CTU.
+    pub fn advanced(self) -> State
+        requires { ⌜ self .next < 4294967295 ⌝ }
+        ensures { λ r. ⌜ r ≡ stateAfter self ⌝ }
+    {
+        let picture = self.picture;
+        let n = self.next;
+        State {
+            picture,
+            next: n + 1,
+        }
+    }
 }
 
 // One component's set. Offsets are as coded, before they are scaled to the depth.
@@ -78,4 +104,49 @@ pub struct Layout {
     pub height: usize,
     pub depth: u32,
     pub shift: u32,
+}
+
+// What open, deliver and filter answer, and the state that they hand back. The state stands beside
+// the answer, since an enum could hold none with an array in it.
+pub enum Answer {
+    Done,
+    Refused(Refusal),
+}
+
+pub struct Outcome {
+    pub answer: Answer,
+    pub state: State,
+}
+
+// What read answers: the set.
+pub enum ReadAnswer {
+    Set(CtuSet),
+    Refused(Refusal),
+}
+
+pub struct ReadOutcome {
+    pub answer: ReadAnswer,
+    pub state: State,
+}
+
+// What write answers: the number of bins.
+pub enum WriteAnswer {
+    Bins(usize),
+    Refused(Refusal),
+}
+
+pub struct WriteOutcome {
+    pub answer: WriteAnswer,
+    pub state: State,
+}
+
+// What the companion of finished rows answers: the number of sample rows.
+pub enum RowsAnswer {
+    Rows(usize),
+    Refused(Refusal),
+}
+
+pub struct RowsOutcome {
+    pub answer: RowsAnswer,
+    pub state: State,
 }

@@ -1,0 +1,4 @@
+pub mod Formats
+pub mod Counts
+pub mod Marks
+pub mod Neighbours

@@ -1,0 +1,41 @@
+// What is lent: whether planes, marks and table have their right lengths.
+use standard::Picture;
+ghost use Rattle.standard.specs.Picture.{Rules};
+ghost use Rattle.standard.specs.Refusals.{Tells};
+ghost use Rattle.standard.specs.Reasons.{PlanesFit, MarksFit, TableFits};
+
+pub fn planes_fit(p: Picture, y: &[u16], cb: &[u16], cr: &[u16]) -> bool
+    requires { ⌜ Rules p ⌝ }
+    ensures { λ r. ⌜ Tells (PlanesFit p (record { y = now (y .entry); cb = now (cb .entry); cr = now (cr .entry) })) r ⌝ }
+{
+    if y.len() != geometry::sample_count(p, 0) {
+        return false;
+    }
+    if cb.len() != geometry::sample_count(p, 1) {
+        return false;
+    }
+    if cr.len() != geometry::sample_count(p, 2) {
+        return false;
+    }
+    true
+}
+
+pub fn marks_fit(p: Picture, marks: &[u8]) -> bool
+    requires { ⌜ Rules p ⌝ }
+    ensures { λ r. ⌜ Tells (MarksFit p (now (marks .entry))) r ⌝ }
+{
+    if marks.len() != geometry::mark_count(p) {
+        return false;
+    }
+    true
+}
+
+pub fn table_fits(p: Picture, table: &[u8]) -> bool
+    requires { ⌜ Rules p ⌝ }
+    ensures { λ r. ⌜ Tells (TableFits p (now (table .entry))) r ⌝ }
+{
+    if table.len() != geometry::table_size(p) {
+        return false;
+    }
+    true
+}

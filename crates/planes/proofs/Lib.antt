@@ -1,0 +1,4 @@
+pub mod Raster
+pub mod Blocks
+pub mod Fill
+pub mod Scans

@@ -1,0 +1,94 @@
+-- One CTB of one plane written: the lengths that no refusal leaves open, that painting writes it, and that nothing else does.
+use mathlib.Core.Path.{_≡_, refl, sym, _∙_, subst}
+use mathlib.Core.Bool.{Bool, true, false, cond}
+use mathlib.Core.List.{List}
+use mathlib.Core.Logic.{_⊎_, inl}
+use Prim.Native.Nat.{ℕ, zero, suc, _*_, _≤_, _<_}
+use native.Mathlib.Decide.{ℕ-discrete}
+use native.Mathlib.Omega.{arith}
+use lib.Dec.{eqb}
+use lib.ListN.{length}
+use Rattle.standard.specs.declared.Picture.{Picture}
+use Rattle.standard.specs.Picture.{components, planeWidth, planeHeight, rectangle}
+use Rattle.standard.specs.Samples.{at}
+use Rattle.standard.specs.Reasons.{Planes, planeOf, PlanesFit}
+use Rattle.standard.specs.Calls.{Written, BlockWritten}
+use Rattle.standard.proofs.Judging.{inside?}
+use Rattle.standard.proofs.Rasters.{length-planeBy, at-planeBy, written-unique}
+use Rattle.promises.specs.Ours.{choose, painted, withPlane, paintedIn}
+use Rattle.promises.proofs.Written.{components-most, plane-length}
+
+-- ---- a choice
+
+pub choose-yes : {A B : Type 0} (d : Dec A) (x y : B) → A → choose d x y ≡ x
+choose-yes (yes a) x y h = refl
+choose-yes (no n) x y h = absurd (n h)
+
+pub choose-no : {A B : Type 0} (d : Dec A) (x y : B) → ¬ A → choose d x y ≡ y
+choose-no (yes a) x y n = absurd (n a)
+choose-no (no m) x y n = refl
+
+-- ---- the length of a plane
+
+-- it is right where it is no reason to refuse
+pub plane-not-short : {A : Type 0} {p : Picture} {planes : Planes} → (A → PlanesFit p planes) → ¬ (¬ A) → (i : ℕ) → i < components p
+    → length (planeOf planes i) ≡ planeWidth p i * planeHeight p i
+plane-not-short {p = p} {planes = planes} fit n i h = go (ℕ-discrete (length (planeOf planes i)) (planeWidth p i * planeHeight p i))
+  where
+    go : Dec (length (planeOf planes i) ≡ planeWidth p i * planeHeight p i) → length (planeOf planes i) ≡ planeWidth p i * planeHeight p i
+    go (yes e) = e
+    go (no m) = absurd (n (λ a. m (plane-length (fit a) h)))
+
+pub component-there : (p : Picture) (i : ℕ) {B : Type 0} → ¬ ((components p ≤ i) ⊎ B) → i < components p
+component-there p i n = let m : ¬ (components p ≤ i) = λ h. n (inl h) in omega arith
+
+-- ---- one plane of three
+
+own-plane : (planes : Planes) (i : ℕ) (plane : List ℕ) → i < 3 → planeOf (withPlane planes i plane) i ≡ plane
+unfolding withPlane
+own-plane planes zero plane h = choose-yes (ℕ-discrete 0 0) plane (planes .y) refl
+own-plane planes (suc zero) plane h = choose-yes (ℕ-discrete 1 1) plane (planes .cb) refl
+own-plane planes (suc (suc zero)) plane h = choose-yes (ℕ-discrete 2 2) plane (planes .cr) refl
+own-plane planes (suc (suc (suc i))) plane h = absurd (omega arith)
+
+other-plane : (planes : Planes) (i : ℕ) (plane : List ℕ) (j : ℕ) → ¬ (j ≡ i) → planeOf (withPlane planes i plane) j ≡ planeOf planes j
+unfolding withPlane
+other-plane planes i plane zero n = choose-no (ℕ-discrete 0 i) plane (planes .y) n
+other-plane planes i plane (suc zero) n = choose-no (ℕ-discrete 1 i) plane (planes .cb) n
+other-plane planes i plane (suc (suc zero)) n = choose-no (ℕ-discrete 2 i) plane (planes .cr) n
+other-plane planes i plane (suc (suc (suc j))) n = refl
+
+-- ---- painting writes the block
+
+module _ (p : Picture) (i k : ℕ) (f : ℕ → ℕ → ℕ) where
+  painted-written : (plane : List ℕ) → length plane ≡ planeWidth p i * planeHeight p i
+      → Written (planeWidth p i) (planeHeight p i) (rectangle p i k) f plane (painted p i k f plane)
+  unfolding painted
+  painted-written plane long = record {
+    long = length-planeBy (planeWidth p i) (planeHeight p i) _ ∙ sym long;
+    inside = λ x y a b t. at-planeBy (planeWidth p i) (planeHeight p i) _ a b ∙ choose-yes (inside? (rectangle p i k) x y) (f x y) (at plane (planeWidth p i) x y) t;
+    outside = λ x y a b n. at-planeBy (planeWidth p i) (planeHeight p i) _ a b ∙ choose-no (inside? (rectangle p i k) x y) (f x y) (at plane (planeWidth p i) x y) n;
+  }
+
+  pub painted-block : (planes : Planes) → i < components p → length (planeOf planes i) ≡ planeWidth p i * planeHeight p i
+      → BlockWritten p i k f planes (paintedIn p i k f planes)
+  unfolding paintedIn
+  painted-block planes h long = record {
+    own = subst (Written (planeWidth p i) (planeHeight p i) (rectangle p i k) f (planeOf planes i))
+        (sym (own-plane planes i (painted p i k f (planeOf planes i)) (omega (arith, components-most p))))
+        (painted-written (planeOf planes i) long);
+    others = λ j n. other-plane planes i (painted p i k f (planeOf planes i)) j n;
+  }
+
+-- ---- and nothing else does
+
+same-planes : {a b : Planes} → ((j : ℕ) → planeOf a j ≡ planeOf b j) → a ≡ b
+same-planes e n = record { y = e 0 n; cb = e 1 n; cr = e 2 n }
+
+pub block-unique : {p : Picture} {i k : ℕ} {f : ℕ → ℕ → ℕ} {before a b : Planes} → BlockWritten p i k f before a → BlockWritten p i k f before b
+    → length (planeOf before i) ≡ planeWidth p i * planeHeight p i → a ≡ b
+block-unique {p} {i} {k} {f} {before} {a} {b} s t long = same-planes (λ j. go j (ℕ-discrete j i))
+  where
+    go : (j : ℕ) → Dec (j ≡ i) → planeOf a j ≡ planeOf b j
+    go j (yes e) = subst (λ (n : ℕ). planeOf a n ≡ planeOf b n) (sym e) (written-unique (s .own) (t .own) long)
+    go j (no n) = s .others j n ∙ sym (t .others j n)

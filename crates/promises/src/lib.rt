@@ -1,0 +1,4 @@
+// The promises: no code, only specs/ and proofs/.
+pub struct Nothing {
+    pub none: u32,
+}

@@ -1,0 +1,34 @@
+-- Each contract has one answer.
+use mathlib.Core.Path.{_≡_, refl, sym, ap, _∙_}
+use mathlib.Core.Bool.{Bool}
+use mathlib.Core.List.{List}
+use Prim.Native.Nat.{ℕ}
+use Rattle.standard.specs.declared.Offsets.{Offsets}
+use Rattle.standard.specs.declared.CtuSet.{CtuSet}
+use Rattle.standard.specs.declared.Picture.{Picture}
+use Rattle.standard.specs.Sets.{Switches, switchesOf, Valid}
+use Rattle.standard.specs.Table.{entered}
+use Rattle.standard.specs.Refusals.{Tells}
+use Rattle.standard.proofs.Answers.{one-answer}
+use Rattle.sets.specs.declared.Found.{Found}
+use Rattle.sets.specs.declared.Found.the-variants.{Set, Bad}
+use Rattle.sets.specs.Entries.{Finds}
+use Rattle.sets.proofs.Finding.{sound-of, found-stored}
+
+pub get-set-once : (s : Switches) (table : List ℕ) (k : ℕ) (r r′ : Found) → Finds s table k r → Finds s table k r′ → r ≡ r′
+get-set-once s table k (Set q) (Set q′) f f′ = ap Set (sym (found-stored f) ∙ found-stored f′)
+get-set-once s table k (Set q) Bad f f′ = absurd (f′ (sound-of f))
+get-set-once s table k Bad (Set q) f f′ = absurd (f (sound-of f′))
+get-set-once s table k Bad Bad f f′ = refl
+
+pub same-offsets-once : (a b : Offsets) (r r′ : Bool) → Tells (a ≡ b) r → Tells (a ≡ b) r′ → r ≡ r′
+same-offsets-once a b = one-answer (a ≡ b)
+
+pub same-set-once : (a b : CtuSet) (r r′ : Bool) → Tells (a ≡ b) r → Tells (a ≡ b) r′ → r ≡ r′
+same-set-once a b = one-answer (a ≡ b)
+
+pub is-valid-once : (p : Picture) (q : CtuSet) (r r′ : Bool) → Tells (Valid (switchesOf p) q) r → Tells (Valid (switchesOf p) q) r′ → r ≡ r′
+is-valid-once p q = one-answer (Valid (switchesOf p) q)
+
+pub put-set-once : (table : List ℕ) (k : ℕ) (q : CtuSet) (exit exit′ : List ℕ) → exit ≡ entered table k q → exit′ ≡ entered table k q → exit ≡ exit′
+put-set-once table k q exit exit′ e e′ = e ∙ sym e′

@@ -39,7 +39,8 @@ fn edge(random: &mut Random, largest: u8, class: u8) -> ComponentSet {
     ComponentSet::Edge { class, offsets }
 }
 
-fn component(random: &mut Random, largest: u8, type_index: usize, class: u8) -> ComponentSet {
+/// One component's set of a type, within the rules; an edge has the class.
+pub fn component(random: &mut Random, largest: u8, type_index: usize, class: u8) -> ComponentSet {
     match type_index {
         0 => ComponentSet::Off,
         1 => band(random, largest),

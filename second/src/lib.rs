@@ -10,7 +10,8 @@
 //! - refusals ([`reasons`]): a list of number and predicate in document 01's order; the first that holds is the answer.
 //!
 //! [`stage`] has the six calls, [`world`] drives them on one set of lent buffers, [`vectors`] and [`replay`] put real
-//! pictures through them, [`random`], [`generate`] and [`runs`] make pictures, sets, samples and calls for long runs.
+//! pictures through them, [`random`], [`generate`] and [`runs`] make pictures, sets, samples and calls for long runs,
+//! [`stored`] makes what the proved programs are run on and must write.
 
 pub mod bins;
 pub mod filter;
@@ -22,6 +23,7 @@ pub mod replay;
 pub mod runs;
 pub mod sets;
 pub mod stage;
+pub mod stored;
 pub mod table;
 pub mod vectors;
 pub mod world;

@@ -4,6 +4,7 @@
 //! sentence on the error stream; the exit status is 2 for the command line and 1 for anything in the files.
 
 use second::replay::{Tally, through_the_stage};
+use second::stored::bytes;
 use second::vectors::Vector;
 use second::{Picture, filter_picture};
 use std::io::{self, Write};
@@ -15,7 +16,10 @@ struct Command {
     run: fn(&[String], &mut dyn Write) -> Result<(), Mistake>,
 }
 
-const COMMANDS: [Command; 1] = [Command { name: "vectors", given: "FILE...", run: vectors }];
+const COMMANDS: [Command; 2] = [
+    Command { name: "vectors", given: "FILE...", run: vectors },
+    Command { name: "stored", given: "cases|blocks stdin|stdout", run: stored },
+];
 
 enum Mistake {
     CommandLine(String),
@@ -55,12 +59,26 @@ fn vectors(files: &[String], out: &mut dyn Write) -> Result<(), Mistake> {
     for file in files {
         let (line, agrees) = judged(file).map_err(|why| Mistake::File(format!("{file}: {why}")))?;
         differing += usize::from(!agrees);
-        writeln!(out, "{line}").map_err(|why| Mistake::File(format!("the output cannot be written: {why}")))?;
+        writeln!(out, "{line}").map_err(not_written)?;
     }
     match differing {
         0 => Ok(()),
         _ => Err(Mistake::File(format!("{differing} of {} files differ", files.len()))),
     }
+}
+
+/// Writes what a proved program is run on, or what it must write.
+fn stored(names: &[String], out: &mut dyn Write) -> Result<(), Mistake> {
+    let found = match names {
+        [program, file] => bytes(program, file),
+        _ => None,
+    };
+    let found = found.ok_or_else(|| Mistake::CommandLine(format!("no such stored file; {}", usage())))?;
+    out.write_all(&found).and_then(|()| out.flush()).map_err(not_written)
+}
+
+fn not_written(why: io::Error) -> Mistake {
+    Mistake::File(format!("the output cannot be written: {why}"))
 }
 
 fn judged(file: &str) -> Result<(String, bool), String> {

@@ -1,8 +1,13 @@
-// What is lent: whether planes, marks and table have their right lengths.
+// What is lent: whether planes, marks and table have their right lengths, and whether a CTU is due.
+use standard::Answer;
 use standard::Picture;
+use standard::Refusal;
+use standard::State;
 ghost use Rattle.standard.specs.Picture.{Rules};
 ghost use Rattle.standard.specs.Refusals.{Tells};
 ghost use Rattle.standard.specs.Reasons.{PlanesFit, MarksFit, TableFits};
+ghost use Rattle.standard.specs.Contracts.{Judged};
+ghost use Rattle.lent.specs.Due.{dueReasons};
 
 pub fn planes_fit(p: Picture, y: &[u16], cb: &[u16], cr: &[u16]) -> bool
     requires { ⌜ Rules p ⌝ }
@@ -38,4 +43,26 @@ pub fn table_fits(p: Picture, table: &[u8]) -> bool
         return false;
     }
     true
+}
+
+// The reasons that come first in reading and in writing, in document 01's order.
+pub fn due_answer(state: State, table: &[u8]) -> Answer
+    ensures { λ r. ⌜ Judged (dueReasons state (now (table .entry))) r ⌝ }
+{
+    let p = state.picture;
+    let next = state.next;
+    if !geometry::is_described(p) {
+        return Answer::Refused(Refusal::Description);
+    }
+    if !table_fits(p, table) {
+        return Answer::Refused(Refusal::Length);
+    }
+    let ctus = geometry::ctu_count(p);
+    if (next as usize) > ctus {
+        return Answer::Refused(Refusal::Stored);
+    }
+    if (next as usize) == ctus {
+        return Answer::Refused(Refusal::AllRead);
+    }
+    Answer::Done
 }

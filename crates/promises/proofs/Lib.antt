@@ -16,5 +16,4 @@ pub mod First
 pub mod Second
 pub mod Tied
 pub mod Pinned
-pub mod Runs
 pub mod Proved

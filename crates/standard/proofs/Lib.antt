@@ -11,6 +11,7 @@ pub mod Clips
 pub mod Moves
 pub mod Numbers
 pub mod Answers
+pub mod Parts
 pub mod Codes
 pub mod Elements
 pub mod Components

@@ -1,0 +1,41 @@
+-- `Cursor::edge_of` meets its contract.
+use borrow.Author.Needs.{needs}
+use mathlib.Core.Path.{ap}
+use native.Mathlib.Omega.{arith}
+use lib.IntN.{ℤ}
+use Rattle.standard.proofs.Elements.{Four}
+use Rattle.standard.proofs.Components.{edgeOf, edgeSignedCode}
+use Rattle.bins.specs.Forms.{edgeOfRead}
+use Rattle.bins.specs.Views.{signedTaken}
+use Rattle.bins.proofs.Steps.{known, valued, then-cut, mapped-took, value-holds}
+use Rattle.bins.proofs.SmallNumbers.{four-back}
+use Rattle.bins.proofs.Cursor.edge_of.Statement.{statement}
+use Rattle.bins.proofs.Cursor.edge_of.Tie as tie
+
+edge-offsets-requires : tie.Need-edge-offsets-requires
+edge-offsets-requires c κs = search needs
+
+enum-known-s : tie.Need-enum-known-s
+enum-known-s c = search needs
+
+enum-told : tie.Need-enum-told
+enum-told c = search needs
+
+returns : tie.Need-returns
+unfolding edgeOfRead
+returns c = then-cut _ (known (c .before .before .edge-offsets .ensures) (ap signedTaken (c .enum-told .given .1)))
+
+returns-2 : tie.Need-returns-2
+unfolding edgeOfRead
+returns-2 c =
+    let s1 = c .before in
+    let start = s1 .before .before .before .before .before in
+    let h1 = known (s1 .before .before .before .edge-offsets .ensures) (ap signedTaken (s1 .before .s .given .1)) in
+    let k = start .args .class in
+    let e = value-holds (edgeSignedCode (start .args .m)) h1 in
+    valued (mapped-took (edgeOf k) h1)
+    (ap (λ (z : Four ℤ). edgeOf k z)
+    (four-back (omega (arith, e .0 .m1, start .pre .1)) (omega (arith, e .0 .m2, start .pre .1)) (omega (arith, e .0 .m3, start .pre .1)) (omega (arith, e .0 .m4, start .pre .1))))
+
+pub edge-of-spec : {M : Type 1} → statement M
+edge-of-spec = tie.close (tie.spec edge-offsets-requires enum-known-s enum-told returns returns-2)

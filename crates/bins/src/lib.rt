@@ -1,0 +1,605 @@
+// Reads a CTU's parameters from packed bins: bits from the most significant bit of the first byte on, of which the
+// first `count` are bins. What is read is what the standard's reader says of those bins: no more and no less.
+use standard::CtuSet;
+use standard::Offsets;
+use standard::Picture;
+ghost use mathlib.Core.Path.{_≡_};
+ghost use mathlib.Core.Bool.{cond, true};
+ghost use mathlib.Core.Option.{some};
+ghost use Prim.Native.Nat.{_*_, _≤_, _<_};
+ghost use lib.IntN.{pos, negℤ};
+ghost use lib.ListN.{length, drop, getD};
+ghost use Rattle.standard.specs.Picture.{Rules};
+ghost use Rattle.standard.specs.Sets.{switchesOf, largest, most};
+ghost use Rattle.standard.specs.Means.{anyOn};
+ghost use Rattle.standard.specs.Bins.{bitsOf, binsOf, number};
+ghost use Rattle.standard.proofs.Codes.{bit};
+ghost use Rattle.standard.proofs.Elements.{fixedCode, truncatedCode, magnitudesCode, signCode, signsCode};
+ghost use Rattle.standard.proofs.Components.{bandCode, edgeCode, edgeSignedCode, componentCode, crCode, chromaCode};
+ghost use Rattle.standard.proofs.Ctu.{lumaCode, twoCode, fullCode};
+ghost use Rattle.standard.proofs.Reader.{readCtu};
+ghost use Rattle.bins.specs.Reads.{Within, binsAt, Reads};
+ghost use Rattle.bins.specs.Views.{flagTaken, numberTaken, four, fourTaken, offsetTaken, signedTaken, componentTaken, chromaTaken, setTaken, formTaken};
+ghost use Rattle.bins.specs.Forms.{mergeRead, formRead, edgeOfRead, nearOf, isThere, copied, answerOf, ReadAs};
+
+// A place in the bins, and how many of them there are.
+struct Cursor {
+    at: usize,
+    count: usize,
+}
+
+// What is taken is a value and the cursor after it; or the bins end before the value does.
+enum FlagTaken {
+    Value(bool, Cursor),
+    Short,
+}
+
+enum NumberTaken {
+    Value(u32, Cursor),
+    Short,
+}
+
+// Four magnitudes, of the offsets 1 to 4.
+struct Four {
+    v1: u32,
+    v2: u32,
+    v3: u32,
+    v4: u32,
+}
+
+enum FourTaken {
+    Value(Four, Cursor),
+    Short,
+}
+
+enum OffsetTaken {
+    Value(i8, Cursor),
+    Short,
+}
+
+// Four offsets.
+struct Signed {
+    o1: i8,
+    o2: i8,
+    o3: i8,
+    o4: i8,
+}
+
+enum SignedTaken {
+    Value(Signed, Cursor),
+    Short,
+}
+
+enum ComponentTaken {
+    Value(Offsets, Cursor),
+    Short,
+}
+
+enum ChromaTaken {
+    Value(Offsets, Offsets, Cursor),
+    Short,
+}
+
+enum SetTaken {
+    Value(CtuSet, Cursor),
+    Short,
+}
+
+enum FormTaken {
+    Value(Form, Cursor),
+    Short,
+}
+
+// The form that a CTU's bins have: a merge, whose set is the neighbour's, or a set in full; or what is wrong with them.
+pub enum Form {
+    Left,
+    Up,
+    Full(CtuSet),
+    TooEarly,
+    BinsRemain,
+}
+
+// A neighbour that a merge may reach, with its set; or there is none.
+pub enum Near {
+    Nothing,
+    Set(CtuSet),
+}
+
+// The set that a CTU's bins mean; or what is wrong with them.
+pub enum Answer {
+    Set(CtuSet),
+    TooEarly,
+    BinsRemain,
+}
+
+// The largest magnitudes.
+struct Largest {
+    luma: u32,
+    cb: u32,
+    cr: u32,
+}
+
+// The byte at i, and 0 past the end.
+fn byte_at(bytes: &[u8], i: usize) -> u64
+    ensures { λ r. ⌜ r ≡ getD (now (bytes .entry)) i 0 ⌝ }
+    ensures { λ r. ⌜ r < 256 ⌝ }
+{
+    if i < bytes.len() { bytes[i] as u64 } else { 0 }
+}
+
+// The 40 bits from the byte q on as a number, the first one highest.
+fn forty(bytes: &[u8], q: usize) -> u64
+    requires { ⌜ q ≤ length (now bytes) ⌝ }
+    ensures { λ r. ⌜ r ≡ number 40 (drop (8 * q) (bitsOf (now (bytes .entry)))) ⌝ }
+{
+    byte_at(bytes, q) * 0x1_0000_0000
+        + byte_at(bytes, q + 1) * 0x100_0000
+        + byte_at(bytes, q + 2) * 0x1_0000
+        + byte_at(bytes, q + 3) * 0x100
+        + byte_at(bytes, q + 4)
+}
+
+// An offset of magnitude v.
+fn offset(v: u32, negative: bool) -> i8
+    requires { ⌜ v < 128 ⌝ }
+    ensures { λ r. ⌜ r ≡ cond negative (negℤ (pos v)) (pos v) ⌝ }
+{
+    let n = v as i32;
+    if negative { (0 - n) as i8 } else { n as i8 }
+}
+
+// M at a depth: from 10 bits on it grows no more.
+fn largest_at(depth: u8) -> u32
+    requires { ⌜ 8 ≤ depth ⌝ }
+    ensures { λ r. ⌜ r ≡ largest depth ⌝ }
+{
+    if depth < 10 {
+        return (1u32 << (depth as u32 - 5)) - 1;
+    }
+    31
+}
+
+// M of each component: one depth serves all three.
+fn largest_of(p: Picture) -> Largest
+    requires { ⌜ Rules p ⌝ }
+    ensures { λ r. ⌜ (r .luma ≡ most (switchesOf p) 0) × (r .cb ≡ most (switchesOf p) 1) × (r .cr ≡ most (switchesOf p) 2) ⌝ }
+{
+    let m = largest_at(p.depth);
+    Largest {
+        luma: m,
+        cb: m,
+        cr: m,
+    }
+}
+
+impl Cursor {
+    // The 32 bins from here on as a number, the first one highest. Bits at the count and past it are no bins, and are 0
+    // here, so that a magnitude that the count cuts short shows as short.
+    fn window(self, bytes: &[u8]) -> u32
+        requires { ⌜ Within (now bytes) self ⌝ }
+        ensures { λ r. ⌜ r ≡ number 32 (binsAt (now (bytes .entry)) self) ⌝ }
+    {
+        let at = self.at;
+        let w = forty(bytes, at / 8) << (24 + at % 8) >> 32;
+        let left = self.count - at;
+        if left < 32 {
+            let past = 32 - left;
+            (w >> past << past) as u32
+        } else {
+            w as u32
+        }
+    }
+
+    // A magnitude of at most m: its ones are the leading zeros of the window's complement. M itself has no zero after it.
+    fn magnitude(self, bytes: &[u8], m: u32) -> NumberTaken
+        requires { ⌜ Within (now bytes) self ⌝ }
+        requires { ⌜ m < 32 ⌝ }
+        ensures { λ r. ⌜ Reads (now (bytes .entry)) self (truncatedCode m .read) (numberTaken r) ⌝ }
+    {
+        let at = self.at;
+        let count = self.count;
+        let ones = u32::leading_zeros(!self.window(bytes));
+        if ones >= m {
+            return NumberTaken::Value(
+                m,
+                Cursor {
+                    at: at + m as usize,
+                    count,
+                },
+            );
+        }
+        if (ones as usize) < count - at {
+            return NumberTaken::Value(
+                ones,
+                Cursor {
+                    at: at + ones as usize + 1,
+                    count,
+                },
+            );
+        }
+        NumberTaken::Short
+    }
+
+    // A number of `width` bins, the highest first.
+    fn fixed(self, bytes: &[u8], width: u32) -> NumberTaken
+        requires { ⌜ Within (now bytes) self ⌝ }
+        requires { ⌜ (0 < width) × (width < 32) ⌝ }
+        ensures { λ r. ⌜ Reads (now (bytes .entry)) self (fixedCode width .read) (numberTaken r) ⌝ }
+    {
+        let at = self.at;
+        let count = self.count;
+        if count - at < width as usize {
+            return NumberTaken::Short;
+        }
+        let v = self.window(bytes) >> (32 - width);
+        NumberTaken::Value(
+            v,
+            Cursor {
+                at: at + width as usize,
+                count,
+            },
+        )
+    }
+
+    fn flag(self, bytes: &[u8]) -> FlagTaken
+        requires { ⌜ Within (now bytes) self ⌝ }
+        ensures { λ r. ⌜ Reads (now (bytes .entry)) self (bit .read) (flagTaken r) ⌝ }
+    {
+        let NumberTaken::Value(v, next) = self.fixed(bytes, 1) else {
+            return FlagTaken::Short;
+        };
+        FlagTaken::Value(v == 1, next)
+    }
+
+    // Four magnitudes of at most m.
+    fn magnitudes(self, bytes: &[u8], m: u32) -> FourTaken
+        requires { ⌜ Within (now bytes) self ⌝ }
+        requires { ⌜ m < 32 ⌝ }
+        ensures { λ r. ⌜ Reads (now (bytes .entry)) self (magnitudesCode m .read) (fourTaken r) ⌝ }
+    {
+        let NumberTaken::Value(v1, c1) = self.magnitude(bytes, m) else {
+            return FourTaken::Short;
+        };
+        let NumberTaken::Value(v2, c2) = c1.magnitude(bytes, m) else {
+            return FourTaken::Short;
+        };
+        let NumberTaken::Value(v3, c3) = c2.magnitude(bytes, m) else {
+            return FourTaken::Short;
+        };
+        let NumberTaken::Value(v4, c4) = c3.magnitude(bytes, m) else {
+            return FourTaken::Short;
+        };
+        FourTaken::Value(Four { v1, v2, v3, v4 }, c4)
+    }
+
+    // The offset of magnitude v: 0 has no sign bin.
+    fn sign(self, bytes: &[u8], v: u32) -> OffsetTaken
+        requires { ⌜ Within (now bytes) self ⌝ }
+        requires { ⌜ v < 32 ⌝ }
+        ensures { λ r. ⌜ Reads (now (bytes .entry)) self (signCode v .read) (offsetTaken r) ⌝ }
+    {
+        if v == 0 {
+            return OffsetTaken::Value(0, self);
+        }
+        let FlagTaken::Value(negative, next) = self.flag(bytes) else {
+            return OffsetTaken::Short;
+        };
+        OffsetTaken::Value(offset(v, negative), next)
+    }
+
+    // The offsets of four magnitudes.
+    fn signs(self, bytes: &[u8], f: Four) -> SignedTaken
+        requires { ⌜ Within (now bytes) self ⌝ }
+        requires { ⌜ (f .v1 < 32) × (f .v2 < 32) × (f .v3 < 32) × (f .v4 < 32) ⌝ }
+        ensures { λ r. ⌜ Reads (now (bytes .entry)) self (signsCode (four f) .read) (signedTaken r) ⌝ }
+    {
+        let OffsetTaken::Value(o1, c1) = self.sign(bytes, f.v1) else {
+            return SignedTaken::Short;
+        };
+        let OffsetTaken::Value(o2, c2) = c1.sign(bytes, f.v2) else {
+            return SignedTaken::Short;
+        };
+        let OffsetTaken::Value(o3, c3) = c2.sign(bytes, f.v3) else {
+            return SignedTaken::Short;
+        };
+        let OffsetTaken::Value(o4, c4) = c3.sign(bytes, f.v4) else {
+            return SignedTaken::Short;
+        };
+        SignedTaken::Value(Signed { o1, o2, o3, o4 }, c4)
+    }
+
+    // A band's magnitudes, signs and position.
+    fn band(self, bytes: &[u8], m: u32) -> ComponentTaken
+        requires { ⌜ Within (now bytes) self ⌝ }
+        requires { ⌜ m < 32 ⌝ }
+        ensures { λ r. ⌜ Reads (now (bytes .entry)) self (bandCode m .read) (componentTaken r) ⌝ }
+    {
+        let FourTaken::Value(f, c1) = self.magnitudes(bytes, m) else {
+            return ComponentTaken::Short;
+        };
+        let SignedTaken::Value(s, c2) = c1.signs(bytes, f) else {
+            return ComponentTaken::Short;
+        };
+        let NumberTaken::Value(k, c3) = c2.fixed(bytes, 5) else {
+            return ComponentTaken::Short;
+        };
+        ComponentTaken::Value(
+            Offsets::Band {
+                position: k as u8,
+                o1: s.o1,
+                o2: s.o2,
+                o3: s.o3,
+                o4: s.o4,
+            },
+            c3,
+        )
+    }
+
+    // An edge's magnitudes, whose signs are not coded: the first two offsets are not negative, the last two not positive.
+    fn edge_offsets(self, bytes: &[u8], m: u32) -> SignedTaken
+        requires { ⌜ Within (now bytes) self ⌝ }
+        requires { ⌜ m < 32 ⌝ }
+        ensures { λ r. ⌜ Reads (now (bytes .entry)) self (edgeSignedCode m .read) (signedTaken r) ⌝ }
+    {
+        let FourTaken::Value(f, next) = self.magnitudes(bytes, m) else {
+            return SignedTaken::Short;
+        };
+        SignedTaken::Value(
+            Signed {
+                o1: offset(f.v1, false),
+                o2: offset(f.v2, false),
+                o3: offset(f.v3, true),
+                o4: offset(f.v4, true),
+            },
+            next,
+        )
+    }
+
+    // An edge's magnitudes and class.
+    fn edge(self, bytes: &[u8], m: u32) -> ComponentTaken
+        requires { ⌜ Within (now bytes) self ⌝ }
+        requires { ⌜ m < 32 ⌝ }
+        ensures { λ r. ⌜ Reads (now (bytes .entry)) self (edgeCode m .read) (componentTaken r) ⌝ }
+    {
+        let SignedTaken::Value(s, c1) = self.edge_offsets(bytes, m) else {
+            return ComponentTaken::Short;
+        };
+        let NumberTaken::Value(k, c2) = c1.fixed(bytes, 2) else {
+            return ComponentTaken::Short;
+        };
+        ComponentTaken::Value(
+            Offsets::Edge {
+                class: k as u8,
+                o1: s.o1,
+                o2: s.o2,
+                o3: s.o3,
+                o4: s.o4,
+            },
+            c2,
+        )
+    }
+
+    // Luma or Cb: its type, and what follows.
+    fn component(self, bytes: &[u8], m: u32) -> ComponentTaken
+        requires { ⌜ Within (now bytes) self ⌝ }
+        requires { ⌜ m < 32 ⌝ }
+        ensures { λ r. ⌜ Reads (now (bytes .entry)) self (componentCode m .read) (componentTaken r) ⌝ }
+    {
+        let NumberTaken::Value(t, next) = self.magnitude(bytes, 2) else {
+            return ComponentTaken::Short;
+        };
+        if t == 0 {
+            return ComponentTaken::Value(Offsets::Off, next);
+        }
+        if t == 1 {
+            return next.band(bytes, m);
+        }
+        next.edge(bytes, m)
+    }
+
+    // An edge of a class that is known.
+    fn edge_of(self, bytes: &[u8], m: u32, class: u8) -> ComponentTaken
+        requires { ⌜ Within (now bytes) self ⌝ }
+        requires { ⌜ m < 32 ⌝ }
+        ensures { λ r. ⌜ Reads (now (bytes .entry)) self (edgeOfRead m class) (componentTaken r) ⌝ }
+    {
+        let SignedTaken::Value(s, next) = self.edge_offsets(bytes, m) else {
+            return ComponentTaken::Short;
+        };
+        ComponentTaken::Value(
+            Offsets::Edge {
+                class,
+                o1: s.o1,
+                o2: s.o2,
+                o3: s.o3,
+                o4: s.o4,
+            },
+            next,
+        )
+    }
+
+    // Cr, which takes Cb's type and class, and nothing else of it.
+    fn cr(self, bytes: &[u8], m: u32, cb: Offsets) -> ComponentTaken
+        requires { ⌜ Within (now bytes) self ⌝ }
+        requires { ⌜ m < 32 ⌝ }
+        ensures { λ r. ⌜ Reads (now (bytes .entry)) self (crCode m cb .read) (componentTaken r) ⌝ }
+    {
+        match cb {
+            Offsets::Off => ComponentTaken::Value(Offsets::Off, self),
+            Offsets::Band { .. } => self.band(bytes, m),
+            Offsets::Edge { class, .. } => self.edge_of(bytes, m, class),
+        }
+    }
+
+    // Luma, which is off where its switch is.
+    fn luma(self, bytes: &[u8], on: bool, m: u32) -> ComponentTaken
+        requires { ⌜ Within (now bytes) self ⌝ }
+        requires { ⌜ m < 32 ⌝ }
+        ensures { λ r. ⌜ Reads (now (bytes .entry)) self (lumaCode on m .read) (componentTaken r) ⌝ }
+    {
+        if on {
+            self.component(bytes, m)
+        } else {
+            ComponentTaken::Value(Offsets::Off, self)
+        }
+    }
+
+    // Cb, and Cr after it.
+    fn cb_and_cr(self, bytes: &[u8], m: u32, n: u32) -> ChromaTaken
+        requires { ⌜ Within (now bytes) self ⌝ }
+        requires { ⌜ (m < 32) × (n < 32) ⌝ }
+        ensures { λ r. ⌜ Reads (now (bytes .entry)) self (chromaCode m n .read) (chromaTaken r) ⌝ }
+    {
+        let ComponentTaken::Value(cb, c1) = self.component(bytes, m) else {
+            return ChromaTaken::Short;
+        };
+        let ComponentTaken::Value(cr, c2) = c1.cr(bytes, n, cb) else {
+            return ChromaTaken::Short;
+        };
+        ChromaTaken::Value(cb, cr, c2)
+    }
+
+    // Both chroma components, which are off where their switch is.
+    fn chroma(self, bytes: &[u8], on: bool, m: u32, n: u32) -> ChromaTaken
+        requires { ⌜ Within (now bytes) self ⌝ }
+        requires { ⌜ (m < 32) × (n < 32) ⌝ }
+        ensures { λ r. ⌜ Reads (now (bytes .entry)) self (twoCode on m n .read) (chromaTaken r) ⌝ }
+    {
+        if on {
+            self.cb_and_cr(bytes, m, n)
+        } else {
+            ChromaTaken::Value(Offsets::Off, Offsets::Off, self)
+        }
+    }
+
+    // The full form.
+    fn full(self, bytes: &[u8], p: Picture) -> SetTaken
+        requires { ⌜ Within (now bytes) self ⌝ }
+        requires { ⌜ Rules p ⌝ }
+        ensures { λ r. ⌜ Reads (now (bytes .entry)) self (fullCode (switchesOf p) .read) (setTaken r) ⌝ }
+    {
+        let m = largest_of(p);
+        let ComponentTaken::Value(luma, c1) = self.luma(bytes, p.luma, m.luma) else {
+            return SetTaken::Short;
+        };
+        let ChromaTaken::Value(cb, cr, c2) = c1.chroma(bytes, p.chroma, m.cb, m.cr) else {
+            return SetTaken::Short;
+        };
+        SetTaken::Value(CtuSet { luma, cb, cr }, c2)
+    }
+
+    // Whether the merge with a neighbour is taken: no bin says so where it is not there.
+    fn merge(self, bytes: &[u8], there: bool) -> FlagTaken
+        requires { ⌜ Within (now bytes) self ⌝ }
+        ensures { λ r. ⌜ Reads (now (bytes .entry)) self (mergeRead there) (flagTaken r) ⌝ }
+    {
+        if there {
+            self.flag(bytes)
+        } else {
+            FlagTaken::Value(false, self)
+        }
+    }
+
+    // Merge left, else merge up, else the full form.
+    fn form(self, bytes: &[u8], p: Picture, has_left: bool, has_up: bool) -> FormTaken
+        requires { ⌜ Within (now bytes) self ⌝ }
+        requires { ⌜ Rules p ⌝ }
+        ensures { λ r. ⌜ Reads (now (bytes .entry)) self (formRead (switchesOf p) «has_left» «has_up») (formTaken r) ⌝ }
+    {
+        let FlagTaken::Value(left, c1) = self.merge(bytes, has_left) else {
+            return FormTaken::Short;
+        };
+        if left {
+            return FormTaken::Value(Form::Left, c1);
+        }
+        let FlagTaken::Value(up, c2) = c1.merge(bytes, has_up) else {
+            return FormTaken::Short;
+        };
+        if up {
+            return FormTaken::Value(Form::Up, c2);
+        }
+        let SetTaken::Value(q, c3) = c2.full(bytes, p) else {
+            return FormTaken::Short;
+        };
+        FormTaken::Value(Form::Full(q), c3)
+    }
+}
+
+// Whether a CTU has bins at all.
+fn any_on(p: Picture) -> bool
+    ensures { λ r. ⌜ r ≡ anyOn (switchesOf p) ⌝ }
+{
+    if p.luma { true } else { p.chroma }
+}
+
+// The form of the bins of a CTU that has some.
+fn coded_form(p: Picture, has_left: bool, has_up: bool, bytes: &[u8], count: usize) -> Form
+    requires { ⌜ Rules p ⌝ }
+    requires { ⌜ count ≤ 8 * length (now bytes) ⌝ }
+    requires { ⌜ anyOn (switchesOf p) ≡ true ⌝ }
+    ensures { λ r. ⌜ ReadAs (switchesOf p) «has_left» «has_up» (binsOf (now (bytes .entry)) count) r ⌝ }
+{
+    let start = Cursor { at: 0, count };
+    let FormTaken::Value(form, end) = start.form(bytes, p, has_left, has_up) else {
+        return Form::TooEarly;
+    };
+    if end.at < count {
+        return Form::BinsRemain;
+    }
+    form
+}
+
+// The form of a CTU's bins, of a count that the caller has held to the bytes. With both switches off a CTU has none, and is off.
+pub fn read_form(p: Picture, has_left: bool, has_up: bool, bytes: &[u8], count: usize) -> Form
+    requires { ⌜ Rules p ⌝ }
+    requires { ⌜ count ≤ 8 * length (now bytes) ⌝ }
+    ensures { λ r. ⌜ ReadAs (switchesOf p) «has_left» «has_up» (binsOf (now (bytes .entry)) count) r ⌝ }
+{
+    if any_on(p) {
+        return coded_form(p, has_left, has_up, bytes, count);
+    }
+    if count > 0 {
+        return Form::BinsRemain;
+    }
+    Form::Full(CtuSet {
+        luma: Offsets::Off,
+        cb: Offsets::Off,
+        cr: Offsets::Off,
+    })
+}
+
+fn is_there(n: Near) -> bool
+    ensures { λ r. ⌜ r ≡ isThere (nearOf n) ⌝ }
+{
+    match n {
+        Near::Nothing => false,
+        Near::Set(_) => true,
+    }
+}
+
+// The set that a merge copies.
+fn merged(n: Near) -> Answer
+    requires { ⌜ isThere (nearOf n) ≡ true ⌝ }
+    ensures { λ r. ⌜ some r ≡ copied (nearOf n) ⌝ }
+{
+    match n {
+        Near::Nothing => Answer::TooEarly,
+        Near::Set(q) => Answer::Set(q),
+    }
+}
+
+// The set that a CTU's bins mean.
+pub fn read_ctu(p: Picture, left: Near, up: Near, bytes: &[u8], count: usize) -> Answer
+    requires { ⌜ Rules p ⌝ }
+    requires { ⌜ count ≤ 8 * length (now bytes) ⌝ }
+    ensures { λ r. ⌜ r ≡ answerOf (readCtu (switchesOf p) (nearOf left) (nearOf up) (binsOf (now (bytes .entry)) count)) ⌝ }
+{
+    let form = read_form(p, is_there(left), is_there(up), bytes, count);
+    match form {
+        Form::Left => merged(left),
+        Form::Up => merged(up),
+        Form::Full(q) => Answer::Set(q),
+        Form::TooEarly => Answer::TooEarly,
+        Form::BinsRemain => Answer::BinsRemain,
+    }
+}

@@ -1,0 +1,212 @@
+// Reads records from standard input and prints for each, on a line, what the proved reader or writer
+// of bins answers. The records, and the lines that they must give, are written by the second program
+// (second/src/stored.rs): `rt check` holds what this one prints to them.
+//
+// A record is a head of 72 bytes and a body of 56. In the head stand, numbers of two bytes with the
+// low one first:
+//
+//      0   the left neighbour's set, as an entry of the table
+//     18   the upper neighbour's
+//     36   the set to be written
+//     54   1 where there is a left neighbour, 55 where there is an upper one, else 0
+//     56   0 to read, 1 to write
+//     57   the description: format, depth, luma switch, chroma switch; 61 is 0
+//     62   width, height and CTB size, of two bytes each
+//     68   how many bins there are to be read, of two bytes
+//     70   how many bytes of the body are lent: bins to be read, or room for those to be written; 71 is 0
+//
+// A line has the set that was read, as its 18 bytes of the table, or that the bins end too "early" or
+// that some "remain"; the number of bins that were written, or that there is "no room", and after a
+// colon all bytes that were lent. Or it names what the stage would refuse before it comes to the bins:
+// the "description", a stored set of a "neighbour", the "set" to be written, the "count" of bins.
+use records::pair;
+use records::print_word;
+use records::wide;
+use standard::CtuSet;
+use standard::Picture;
+ghost use Prim.Native.Nat.{_<_};
+ghost use Rattle.standard.specs.Picture.{Rules};
+
+// A neighbour as the record has it: none, its set, or an entry that is no set within the rules.
+enum Neighbour {
+    Nothing,
+    Set(CtuSet),
+    Bad,
+}
+
+// ---- what is printed
+
+// Each byte as two hexadecimal digits.
+fn print_bytes(bytes: &[u8]) {
+    let mut i: usize = 0;
+    while i < bytes.len() {
+        io::print_hex(1, wide(bytes[i]) as u64, 2);
+        i += 1;
+    }
+}
+
+fn print_set(q: CtuSet) {
+    let mut entry = [0u8; 18];
+    sets::put_set(&mut entry, 0, q);
+    print_bytes(&entry);
+    io::write_all(1, b"\n");
+}
+
+// ---- what a record says
+
+fn picture_of(head: &[u8; 72]) -> Picture {
+    let width = pair(head[62], head[63]);
+    let height = pair(head[64], head[65]);
+    let ctb = pair(head[66], head[67]);
+    let format = head[57];
+    let depth = head[58];
+    let luma = head[59] != 0;
+    let chroma = head[60] != 0;
+    Picture {
+        width,
+        height,
+        ctb,
+        format,
+        depth,
+        luma,
+        chroma,
+    }
+}
+
+// The neighbour of entry k.
+fn neighbour_at(p: Picture, head: &[u8; 72], is_there: u8, k: usize) -> Neighbour
+    requires { ⌜ k < 3 ⌝ }
+{
+    if is_there == 0 {
+        return Neighbour::Nothing;
+    }
+    match sets::get_set(p, head, k) {
+        sets::Found::Set(q) => Neighbour::Set(q),
+        sets::Found::Bad => Neighbour::Bad,
+    }
+}
+
+fn is_bad(n: Neighbour) -> bool {
+    match n {
+        Neighbour::Nothing => false,
+        Neighbour::Set(_) => false,
+        Neighbour::Bad => true,
+    }
+}
+
+fn near_to_read(n: Neighbour) -> bins::Near {
+    match n {
+        Neighbour::Nothing => bins::Near::Nothing,
+        Neighbour::Set(q) => bins::Near::Set(q),
+        Neighbour::Bad => bins::Near::Nothing,
+    }
+}
+
+fn near_to_write(n: Neighbour) -> writer::Near {
+    match n {
+        Neighbour::Nothing => writer::Near::Nothing,
+        Neighbour::Set(q) => writer::Near::Set(q),
+        Neighbour::Bad => writer::Near::Nothing,
+    }
+}
+
+// ---- the answers
+
+// The set as its 18 bytes, or what is wrong with the bins.
+fn read(p: Picture, left: Neighbour, up: Neighbour, bytes: &[u8], count: usize)
+    requires { ⌜ Rules p ⌝ }
+    requires { ⌜ count < 65536 ⌝ }
+{
+    if (count + 7) / 8 > bytes.len() {
+        print_word(b"count");
+        return;
+    }
+    match bins::read_ctu(p, near_to_read(left), near_to_read(up), bytes, count) {
+        bins::Answer::Set(q) => print_set(q),
+        bins::Answer::TooEarly => print_word(b"early"),
+        bins::Answer::BinsRemain => print_word(b"remain"),
+    }
+}
+
+// The number of bins, or that there is no room for them; then all bytes that were lent.
+fn write(p: Picture, left: Neighbour, up: Neighbour, q: CtuSet, room: &mut [u8])
+    requires { ⌜ Rules p ⌝ }
+{
+    match writer::write_set(p, near_to_write(left), near_to_write(up), q, room) {
+        writer::Wrote::Bins(n) => {
+            io::print_decimal(1, n as u64);
+        }
+        writer::Wrote::NoRoom => {
+            io::write_all(1, b"no room");
+        }
+    }
+    io::write_all(1, b":");
+    print_bytes(room);
+    io::write_all(1, b"\n");
+}
+
+fn write_if_a_set(p: Picture, left: Neighbour, up: Neighbour, head: &[u8; 72], room: &mut [u8])
+    requires { ⌜ Rules p ⌝ }
+{
+    match sets::get_set(p, head, 2) {
+        sets::Found::Set(q) => write(p, left, up, q, room),
+        sets::Found::Bad => print_word(b"set"),
+    }
+}
+
+// Reads or writes, as the record says.
+fn call(p: Picture, left: Neighbour, up: Neighbour, head: &[u8; 72], body: &mut [u8])
+    requires { ⌜ Rules p ⌝ }
+{
+    let count = pair(head[68], head[69]) as usize;
+    let lent = wide(head[70]);
+    if lent > body.len() {
+        print_word(b"length");
+        return;
+    }
+    if head[56] == 0 {
+        read(p, left, up, &body[..lent], count);
+    } else {
+        write_if_a_set(p, left, up, head, &mut body[..lent]);
+    }
+}
+
+fn answer(head: &[u8; 72], body: &mut [u8]) {
+    let p = picture_of(head);
+    if !geometry::is_described(p) {
+        print_word(b"description");
+        return;
+    }
+    let left = neighbour_at(p, head, head[54], 0);
+    let up = neighbour_at(p, head, head[55], 1);
+    if is_bad(left) || is_bad(up) {
+        print_word(b"neighbour");
+        return;
+    }
+    call(p, left, up, head, body);
+}
+
+// ---- record after record
+
+// Answers one record, and says whether there was one.
+fn turn() -> bool {
+    let mut head = [0u8; 72];
+    if io::read_full(0, &mut head) < 72 {
+        return false;
+    }
+    let mut body = [0u8; 56];
+    if io::read_full(0, &mut body) < 56 {
+        return false;
+    }
+    answer(&head, &mut body);
+    true
+}
+
+// A proved loop has to end, and nothing says that the input does: so the turns are counted down, from
+// a number that no run uses up.
+fn main() {
+    let mut turns = u64::MAX;
+    while turns > 0 && turn() {
+        turns -= 1;
+    }
+}

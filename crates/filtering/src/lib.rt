@@ -1,0 +1,354 @@
+// Filter: the samples of a CTB, as the set of its CTU says, from the deblocked plane of its component
+// into the filtered plane, and its mark becomes 2.
+use standard::Answer;
+use standard::CtuSet;
+use standard::Offsets;
+use standard::Outcome;
+use standard::Picture;
+use standard::Rectangle;
+use standard::Refusal;
+use standard::State;
+ghost use mathlib.Core.Path.{_≡_};
+ghost use mathlib.Core.Logic.{_⊎_};
+ghost use Prim.Native.Nat.{_+_, _*_, _≤_, _<_};
+ghost use lib.ListN.{length, take};
+ghost use Rattle.standard.specs.Picture.{Rules, planeWidth, planeHeight, ctuCount, rectangle};
+ghost use Rattle.standard.specs.Sets.{componentOf};
+ghost use Rattle.standard.specs.Samples.{layoutOf, sample};
+ghost use Rattle.standard.specs.Refusals.{Tells};
+ghost use Rattle.standard.specs.Reasons.{PlanesFit, MarksFit, TableFits, planeOf, markOf, SetIsMissing, DeblockedSampleTooLarge, filterReasons};
+ghost use Rattle.standard.specs.Calls.{Written};
+ghost use Rattle.standard.specs.Contracts.{Judged, FilterEnsures};
+ghost use Rattle.geometry.specs.Geometry.{around};
+ghost use Rattle.planes.specs.Places.{Placed};
+ghost use Rattle.samples.specs.Blocks.{Legal};
+ghost use Rattle.filtering.specs.Filtering.{Outside, RowOutside, MarkOutside, WaitedOutside, MarksJudged, SetJudged, Readied, Named, Deep};
+
+// The set to filter with, or why not.
+enum Ready {
+    Go(Offsets),
+    Refused(Refusal),
+}
+
+// ---- marks, and whether the set is in
+
+fn is_outside(mark: u8, low: u8, high: u8) -> bool
+    ensures { λ r. ⌜ Tells (Outside low high mark) r ⌝ }
+{
+    if mark < low {
+        return true;
+    }
+    high < mark
+}
+
+// Whether one of n marks, from a place on, is below low or above high.
+fn row_outside(marks: &[u8], from: usize, n: usize, low: u8, high: u8) -> bool
+    requires { ⌜ from + n ≤ length (now marks) ⌝ }
+    ensures { λ r. ⌜ Tells (RowOutside low high (now (marks .entry)) from n) r ⌝ }
+{
+    let mut j: usize = 0;
+    while j < n {
+        if is_outside(marks[from + j], low, high) {
+            return true;
+        }
+        j += 1;
+    }
+    false
+}
+
+// And whether one of a rectangle of them is, of w by h from a place on.
+fn mark_outside(
+    marks: &[u8],
+    from: usize,
+    w: usize,
+    h: usize,
+    r: Rectangle,
+    low: u8,
+    high: u8,
+) -> bool
+    requires { ⌜ Placed w h r × (from + w * h ≤ length (now marks)) ⌝ }
+    ensures { λ t. ⌜ Tells (MarkOutside low high (now (marks .entry)) from w r) t ⌝ }
+{
+    let n = r.x1 - r.x0;
+    let mut y = r.y0;
+    while y < r.y1 {
+        let i = planes::index(w, h, r.x0, y);
+        if row_outside(marks, from + i, n, low, high) {
+            return true;
+        }
+        y += 1;
+    }
+    false
+}
+
+// The CTBs that the filter of one waits for, by their columns and rows.
+fn waited_for(p: Picture, ctb: u32) -> Rectangle
+    requires { ⌜ Rules p ⌝ }
+    ensures { λ r. ⌜ r ≡ around p ctb ⌝ }
+{
+    geometry::around_of(p, ctb)
+}
+
+// Whether the mark of one of them is.
+fn waited_outside(p: Picture, component: u8, ctb: u32, marks: &[u8], low: u8, high: u8) -> bool
+    requires { ⌜ Named p component ctb × MarksFit p (now marks) ⌝ }
+    ensures { λ r. ⌜ Tells (WaitedOutside p component ctb (now (marks .entry)) low high) r ⌝ }
+{
+    let from = geometry::mark_place(p, component, 0);
+    let w = geometry::columns_of(p);
+    let h = geometry::rows_of(p);
+    mark_outside(marks, from, w, h, waited_for(p, ctb), low, high)
+}
+
+fn mark_of(p: Picture, component: u8, ctb: u32, marks: &[u8]) -> u8
+    requires { ⌜ Named p component ctb × MarksFit p (now marks) ⌝ }
+    ensures { λ m. ⌜ m ≡ markOf p (now (marks .entry)) component ctb ⌝ }
+{
+    let i = geometry::mark_place(p, component, ctb);
+    marks[i]
+}
+
+fn set_is_missing(state: State, ctb: u32) -> bool
+    ensures { λ r. ⌜ Tells (SetIsMissing state ctb) r ⌝ }
+{
+    state.next <= ctb
+}
+
+// Whether the set, or a CTB waited for, is missing. No mark is above 2 where this is asked.
+fn not_ready(state: State, component: u8, ctb: u32, marks: &[u8]) -> bool
+    requires { ⌜ Named (state .picture) component ctb × MarksFit (state .picture) (now marks) ⌝ }
+    ensures { λ r. ⌜ Tells (SetIsMissing state ctb ⊎ WaitedOutside (state .picture) component ctb (now (marks .entry)) 1 2) r ⌝ }
+{
+    if set_is_missing(state, ctb) {
+        return true;
+    }
+    waited_outside(state.picture, component, ctb, marks, 1, 2)
+}
+
+// ---- set and samples
+
+fn component_of(q: CtuSet, component: u8) -> Offsets
+    ensures { λ r. ⌜ r ≡ componentOf q component ⌝ }
+{
+    match component {
+        0 => q.luma,
+        1 => q.cb,
+        _ => q.cr,
+    }
+}
+
+// Whether a deblocked sample of the CTB, or one around it, is above the depth.
+fn sample_too_large(state: State, component: u8, ctb: u32, plane: &[u16]) -> bool
+    requires { ⌜ Rules (state .picture) × (ctb < ctuCount (state .picture)) ⌝ }
+    requires { ⌜ length (now plane) ≡ planeWidth (state .picture) component * planeHeight (state .picture) component ⌝ }
+    ensures { λ r. ⌜ Tells (DeblockedSampleTooLarge state component ctb (now (plane .entry))) r ⌝ }
+{
+    let p = state.picture;
+    let w = geometry::plane_width(p, component);
+    let h = geometry::plane_height(p, component);
+    let r = geometry::ctb_rectangle(p, component, ctb);
+    let g = geometry::grown_rectangle(p, component, r);
+    let top = geometry::top_of(geometry::depth_of(p, component));
+    planes::some_above(plane, w, h, g, top)
+}
+
+// Of the component's plane.
+fn some_too_large(state: State, component: u8, ctb: u32, y: &[u16], cb: &[u16], cr: &[u16]) -> bool
+    requires { ⌜ Named (state .picture) component ctb ⌝ }
+    requires { ⌜ PlanesFit (state .picture) (record { y = now y; cb = now cb; cr = now cr }) ⌝ }
+    ensures { λ r. ⌜ Tells (DeblockedSampleTooLarge state component ctb (planeOf (record { y = now (y .entry); cb = now (cb .entry); cr = now (cr .entry) }) component)) r ⌝ }
+{
+    match component {
+        0 => sample_too_large(state, component, ctb, y),
+        1 => sample_too_large(state, component, ctb, cb),
+        _ => sample_too_large(state, component, ctb, cr),
+    }
+}
+
+// ---- the reasons to refuse, in document 01's order: the first that holds is the answer
+
+// The description, what is lent, the next CTU, and what is named.
+fn call_answer(
+    state: State,
+    component: u8,
+    ctb: u32,
+    y: &[u16],
+    cb: &[u16],
+    cr: &[u16],
+    out_y: &[u16],
+    out_cb: &[u16],
+    out_cr: &[u16],
+    marks: &[u8],
+    table: &[u8],
+) -> Answer
+    ensures { λ r. ⌜ Judged (take 4 (filterReasons state component ctb (record { y = now (y .entry); cb = now (cb .entry); cr = now (cr .entry) }) (record { y = now («out_y» .entry); cb = now («out_cb» .entry); cr = now («out_cr» .entry) }) (now (marks .entry)) (now (table .entry)))) r ⌝ }
+{
+    let p = state.picture;
+    let next = state.next;
+    if !geometry::is_described(p) {
+        return Answer::Refused(Refusal::Description);
+    }
+    if !lent::planes_fit(p, y, cb, cr) {
+        return Answer::Refused(Refusal::Length);
+    }
+    if !lent::planes_fit(p, out_y, out_cb, out_cr) {
+        return Answer::Refused(Refusal::Length);
+    }
+    if !lent::marks_fit(p, marks) {
+        return Answer::Refused(Refusal::Length);
+    }
+    if !lent::table_fits(p, table) {
+        return Answer::Refused(Refusal::Length);
+    }
+    if (next as usize) > geometry::ctu_count(p) {
+        return Answer::Refused(Refusal::Stored);
+    }
+    if geometry::no_such_block(p, component, ctb) {
+        return Answer::Refused(Refusal::NoSuchBlock);
+    }
+    Answer::Done
+}
+
+// Marks of CTBs that are waited for, the own mark, and what is missing.
+fn marks_answer(state: State, component: u8, ctb: u32, marks: &[u8]) -> Answer
+    requires { ⌜ Named (state .picture) component ctb × MarksFit (state .picture) (now marks) ⌝ }
+    ensures { λ r. ⌜ MarksJudged state component ctb (now (marks .entry)) r ⌝ }
+{
+    let p = state.picture;
+    if waited_outside(p, component, ctb, marks, 0, 2) {
+        return Answer::Refused(Refusal::Stored);
+    }
+    if mark_of(p, component, ctb, marks) == 2 {
+        return Answer::Refused(Refusal::FilteredBefore);
+    }
+    if not_ready(state, component, ctb, marks) {
+        return Answer::Refused(Refusal::NotReady);
+    }
+    Answer::Done
+}
+
+// The set, and the samples that it is for.
+fn set_answer(
+    state: State,
+    component: u8,
+    ctb: u32,
+    y: &[u16],
+    cb: &[u16],
+    cr: &[u16],
+    table: &[u8],
+) -> Ready
+    requires { ⌜ Named (state .picture) component ctb ⌝ }
+    requires { ⌜ PlanesFit (state .picture) (record { y = now y; cb = now cb; cr = now cr }) × TableFits (state .picture) (now table) ⌝ }
+    ensures { λ r. ⌜ SetJudged state component ctb (record { y = now (y .entry); cb = now (cb .entry); cr = now (cr .entry) }) (now (table .entry)) r ⌝ }
+{
+    match sets::get_set(state.picture, table, ctb as usize) {
+        sets::Found::Bad => Ready::Refused(Refusal::Stored),
+        sets::Found::Set(q) => {
+            if some_too_large(state, component, ctb, y, cb, cr) {
+                return Ready::Refused(Refusal::Stored);
+            }
+            Ready::Go(component_of(q, component))
+        }
+    }
+}
+
+// The three parts, one after the other.
+fn filter_answer(
+    state: State,
+    component: u8,
+    ctb: u32,
+    y: &[u16],
+    cb: &[u16],
+    cr: &[u16],
+    out_y: &[u16],
+    out_cb: &[u16],
+    out_cr: &[u16],
+    marks: &[u8],
+    table: &[u8],
+) -> Ready
+    ensures { λ r. ⌜ Readied (filterReasons state component ctb (record { y = now (y .entry); cb = now (cb .entry); cr = now (cr .entry) }) (record { y = now («out_y» .entry); cb = now («out_cb» .entry); cr = now («out_cr» .entry) }) (now (marks .entry)) (now (table .entry))) component ctb (now (table .entry)) r ⌝ }
+{
+    match call_answer(
+        state,
+        component,
+        ctb,
+        y,
+        cb,
+        cr,
+        out_y,
+        out_cb,
+        out_cr,
+        marks,
+        table,
+    ) {
+        Answer::Refused(r) => Ready::Refused(r),
+        Answer::Done => match marks_answer(state, component, ctb, marks) {
+            Answer::Refused(r) => Ready::Refused(r),
+            Answer::Done => set_answer(state, component, ctb, y, cb, cr, table),
+        },
+    }
+}
+
+// ---- the call
+
+// The CTB's samples by its set, from a component's deblocked plane into its filtered plane.
+fn filter_ctb(p: Picture, component: u8, ctb: u32, set: Offsets, plane: &[u16], out: &mut [u16])
+    requires { ⌜ Rules p × (ctb < ctuCount p) × Legal set ⌝ }
+    requires { ⌜ length (now plane) ≡ planeWidth p component * planeHeight p component ⌝ }
+    requires { ⌜ length (now out) ≡ planeWidth p component * planeHeight p component ⌝ }
+    requires { ⌜ Deep p component ctb (now plane) ⌝ }
+    ensures { λ _. ⌜ Written (planeWidth p component) (planeHeight p component) (rectangle p component ctb) (sample (layoutOf p component) set (now (plane .entry))) (now (out .entry)) (now (out .exit)) ⌝ }
+{
+    let l = geometry::layout_of(p, component);
+    let block = geometry::ctb_rectangle(p, component, ctb);
+    samples::filter_block(l, set, block, plane, out);
+}
+
+pub fn filter(
+    state: State,
+    component: u8,
+    ctb: u32,
+    y: &[u16],
+    cb: &[u16],
+    cr: &[u16],
+    out_y: &mut [u16],
+    out_cb: &mut [u16],
+    out_cr: &mut [u16],
+    marks: &mut [u8],
+    table: &[u8],
+) -> Outcome
+    ensures { λ r. ⌜ FilterEnsures state component ctb (record { y = now (y .entry); cb = now (cb .entry); cr = now (cr .entry) }) (record { y = now («out_y» .entry); cb = now («out_cb» .entry); cr = now («out_cr» .entry) }) (now (marks .entry)) (now (table .entry)) r (record { y = now («out_y» .exit); cb = now («out_cb» .exit); cr = now («out_cr» .exit) }) (now (marks .exit)) ⌝ }
+{
+    match filter_answer(
+        state,
+        component,
+        ctb,
+        y,
+        cb,
+        cr,
+        out_y,
+        out_cb,
+        out_cr,
+        marks,
+        table,
+    ) {
+        Ready::Refused(r) => Outcome {
+            answer: Answer::Refused(r),
+            state,
+        },
+        Ready::Go(set) => {
+            let p = state.picture;
+            let i = geometry::mark_place(p, component, ctb);
+            marks[i] = 2;
+            match component {
+                0 => filter_ctb(p, component, ctb, set, y, out_y),
+                1 => filter_ctb(p, component, ctb, set, cb, out_cb),
+                _ => filter_ctb(p, component, ctb, set, cr, out_cr),
+            }
+            Outcome {
+                answer: Answer::Done,
+                state,
+            }
+        }
+    }
+}

@@ -1,0 +1,182 @@
+// Finished rows: the leading part of the caller's own filtered plane, and the companion that answers how many rows it has.
+ghost use mathlib.Core.Path.{_≡_};
+ghost use Prim.Native.Nat.{_+_, _*_, _≤_, min};
+ghost use lib.ListN.{length};
+ghost use Rattle.standard.specs.Picture.{Rules};
+ghost use Rattle.standard.specs.Refusals.{Tells};
+ghost use Rattle.standard.specs.Reasons.{PlanesFit, MarksFit, rowsReasons};
+ghost use Rattle.standard.specs.Contracts.{Judged, RowsEnsures, PartEnsures};
+ghost use Rattle.finishing.specs.Marks.{SomeAboveTwo, SomeUnfiltered, RowsFiltered};
+use standard::Answer;
+use standard::Picture;
+use standard::Refusal;
+use standard::RowsAnswer;
+use standard::RowsOutcome;
+use standard::State;
+
+// ---- the reasons
+
+fn lent_fit(p: Picture, y: &[u16], cb: &[u16], cr: &[u16], marks: &[u8]) -> bool
+    requires { ⌜ Rules p ⌝ }
+    ensures { λ r. ⌜ Tells (PlanesFit p (record { y = now (y .entry); cb = now (cb .entry); cr = now (cr .entry) }) × MarksFit p (now (marks .entry))) r ⌝ }
+{
+    if !lent::planes_fit(p, y, cb, cr) {
+        return false;
+    }
+    if !lent::marks_fit(p, marks) {
+        return false;
+    }
+    true
+}
+
+// Whether a mark above 2 is among the n from `from` on.
+fn some_above_two(marks: &[u8], from: usize, n: usize) -> bool
+    requires { ⌜ from + n ≤ length (now marks) ⌝ }
+    ensures { λ r. ⌜ Tells (SomeAboveTwo (now (marks .entry)) from n) r ⌝ }
+{
+    let mut k: usize = 0;
+    while k < n {
+        if marks[from + k] > 2 {
+            return true;
+        }
+        k += 1;
+    }
+    false
+}
+
+fn rows_answer(
+    state: State,
+    component: u8,
+    y: &[u16],
+    cb: &[u16],
+    cr: &[u16],
+    marks: &[u8],
+) -> Answer
+    ensures { λ r. ⌜ Judged (rowsReasons state component (record { y = now (y .entry); cb = now (cb .entry); cr = now (cr .entry) }) (now (marks .entry))) r ⌝ }
+{
+    let p = state.picture;
+    let next = state.next;
+    if !geometry::is_described(p) {
+        return Answer::Refused(Refusal::Description);
+    }
+    if !lent_fit(p, y, cb, cr, marks) {
+        return Answer::Refused(Refusal::Length);
+    }
+    let n = geometry::ctu_count(p);
+    if (next as usize) > n {
+        return Answer::Refused(Refusal::Stored);
+    }
+    if geometry::no_such_component(p, component) {
+        return Answer::Refused(Refusal::NoSuchBlock);
+    }
+    let from = geometry::mark_place(p, component, 0);
+    if some_above_two(marks, from, n) {
+        Answer::Refused(Refusal::Stored)
+    } else {
+        Answer::Done
+    }
+}
+
+// ---- the companion
+
+// Whether a mark that is not 2 is among the n from `from` on.
+fn some_unfiltered(marks: &[u8], from: usize, n: usize) -> bool
+    requires { ⌜ from + n ≤ length (now marks) ⌝ }
+    ensures { λ r. ⌜ Tells (SomeUnfiltered (now (marks .entry)) from n) r ⌝ }
+{
+    let mut c: usize = 0;
+    while c < n {
+        if marks[from + c] != 2 {
+            return true;
+        }
+        c += 1;
+    }
+    false
+}
+
+// The CTB rows, n CTBs each, before the first that has an unfiltered one.
+fn ctb_rows_filtered(marks: &[u8], from: usize, n: usize, rows: usize) -> usize
+    requires { ⌜ from + rows * n ≤ length (now marks) ⌝ }
+    ensures { λ r. ⌜ RowsFiltered (now (marks .entry)) from n rows r ⌝ }
+{
+    let mut r: usize = 0;
+    while r < rows {
+        if some_unfiltered(marks, from + r * n, n) {
+            return r;
+        }
+        r += 1;
+    }
+    r
+}
+
+// The last CTB row may be cut short.
+fn sample_rows(n: usize, size: usize, height: usize) -> usize
+    requires { ⌜ (n ≤ 512) × (size ≤ 64) ⌝ }
+    ensures { λ r. ⌜ r ≡ min (n * size) height ⌝ }
+{
+    let r = n * size;
+    if r < height { r } else { height }
+}
+
+// How many sample rows are finished, or why the question is refused.
+pub fn finished_count(
+    state: State,
+    component: u8,
+    y: &[u16],
+    cb: &[u16],
+    cr: &[u16],
+    marks: &[u8],
+) -> RowsOutcome
+    ensures { λ r. ⌜ RowsEnsures state component (record { y = now (y .entry); cb = now (cb .entry); cr = now (cr .entry) }) (now (marks .entry)) r ⌝ }
+{
+    match rows_answer(state, component, y, cb, cr, marks) {
+        Answer::Refused(r) => RowsOutcome {
+            answer: RowsAnswer::Refused(r),
+            state,
+        },
+        Answer::Done => {
+            let p = state.picture;
+            let from = geometry::mark_place(p, component, 0);
+            let n = ctb_rows_filtered(marks, from, geometry::columns_of(p), geometry::rows_of(p));
+            let rows = sample_rows(
+                n,
+                geometry::ctb_height(p, component),
+                geometry::plane_height(p, component),
+            );
+            RowsOutcome {
+                answer: RowsAnswer::Rows(rows),
+                state,
+            }
+        }
+    }
+}
+
+// ---- the rows
+
+// Those rows of the component's plane, and none where the companion refuses.
+pub fn finished_rows<'a>(
+    state: State,
+    component: u8,
+    y: &'a [u16],
+    cb: &'a [u16],
+    cr: &'a [u16],
+    marks: &[u8],
+) -> &'a [u16]
+    ensures { λ r. ⌜ PartEnsures state component (record { y = now (y .entry); cb = now (cb .entry); cr = now (cr .entry) }) (now (marks .entry)) (now r) ⌝ }
+{
+    let o = finished_count(state, component, y, cb, cr, marks);
+    let a = o.answer;
+    match a {
+        RowsAnswer::Refused(_) => &y[..0],
+        RowsAnswer::Rows(n) => {
+            let p = state.picture;
+            let w = geometry::plane_width(p, component);
+            let h = geometry::plane_height(p, component);
+            match component {
+                0 => planes::leading_rows(y, w, h, n),
+                1 => planes::leading_rows(cb, w, h, n),
+                _ => planes::leading_rows(cr, w, h, n),
+            }
+        }
+    }
+}

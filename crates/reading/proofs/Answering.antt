@@ -1,0 +1,138 @@
+-- From the form of the bins to the answer: the reasons of the bins in their order, or the set that they mean.
+use mathlib.Core.Path.{_≡_, refl, sym, ap, _∙_, subst, subst₂}
+use mathlib.Core.Bool.{Bool, true, false}
+use mathlib.Core.List.{List, [], _∷_, _++_}
+use mathlib.Core.Logic.{_⊎_, inl, inr, ⊎-elim}
+use mathlib.Core.Option.{Option, some, none}
+use Prim.Native.Nat.{ℕ}
+use lib.ListN.{take, drop}
+use Rattle.standard.specs.declared.CtuSet.{CtuSet}
+use Rattle.standard.specs.declared.State.{State}
+use Rattle.standard.specs.declared.Refusal.the-variants.{TooEarly, BinsRemain}
+use Rattle.standard.specs.declared.ReadAnswer.{ReadAnswer}
+use Rattle.standard.specs.declared.ReadAnswer.the-variants.{Set, Refused}
+use Rattle.standard.specs.Picture.{leftOf, aboveOf}
+use Rattle.standard.specs.Sets.{Switches, switchesOf}
+use Rattle.standard.specs.Bins.{binsOf}
+use Rattle.standard.specs.Means.{anyOn, notTaken, Means, Remain}
+use Rattle.standard.specs.Table.{Sound, stored, storedAt}
+use Rattle.standard.specs.Refusals.{numberOf, Clear}
+use Rattle.standard.specs.Reasons.{due, leftSet, upperSet, Copies, left, up, readReasons}
+use Rattle.standard.proofs.Codes.{impossible}
+use Rattle.standard.proofs.Parts.{first-back, clear-both}
+use Rattle.standard.proofs.Reader.{meant-not-early, meant-not-remain, early-not-remain}
+use Rattle.standard.proofs.Refusing.{there}
+use Rattle.sets.proofs.Finding.{sound-of, found-stored}
+use Rattle.bins.specs.declared.Form.{Form}
+use Rattle.bins.specs.declared.Form.the-variants.{Left, Up, Full}
+use Rattle.bins.specs.declared.Form.the-variants as form
+use Rattle.bins.specs.declared.Answer.{Answer}
+use Rattle.bins.specs.declared.Answer.the-variants as answer
+use Rattle.bins.specs.Forms.{isThere, copied, resolved, ReadAs}
+use Rattle.bins.proofs.Contracts.{form-means, form-early, form-remain, read-form-unique}
+use Rattle.reading.specs.Reading.{There, Copied, Answered}
+use Rattle.reading.proofs.Merges.{left-form, up-form, off-remain, left-bins, up-bins}
+
+-- a merge has a neighbour
+neighbour : (table : List ℕ) (near : Option ℕ) {a : Answer} → copied (storedAt table near) ≡ some a → (k : ℕ) × (near ≡ some k)
+neighbour table none e = impossible cc
+neighbour table (some k) e = (k, refl)
+
+module _ (s : State) (bytes : List ℕ) (count : ℕ) (table : List ℕ) where
+  abbrev bins : List Bool
+  bins = binsOf bytes count
+
+  abbrev sw : Switches
+  sw = switchesOf (s .picture)
+
+  abbrev L : Option CtuSet
+  L = leftSet s table
+
+  abbrev U : Option CtuSet
+  U = upperSet s table
+
+  -- the bins have this form
+  abbrev pub Formed : Form → Type 0
+  Formed f = ReadAs sw (isThere L) (isThere U) bins f
+
+  abbrev Answers : ReadAnswer → Type 0
+  Answers r = Answered s bytes count table (drop 5 (readReasons s bytes count table)) r
+
+  pub formed : {a b : Bool} (f : Form) → ReadAs sw a b bins f → There (leftOf (s .picture) (due s)) a → There (aboveOf (s .picture) (due s)) b → Formed f
+  formed f h l u = subst₂ (λ (a b : Bool). ReadAs sw a b bins f) (sym (l table)) (sym (u table)) h
+
+  -- ---- a merge's form
+
+  off-bins : (o : Option CtuSet) → anyOn sw ≡ false → bins ≡ notTaken o ++ (true ∷ []) → Remain sw L U bins
+  off-bins none off e = off-remain sw L U bins off true [] e
+  off-bins (some q) off e = off-remain sw L U bins off false (true ∷ []) e
+
+  -- bins that merge, and mean a set, have the form of the merge: with both switches off, bins of a merge would remain
+  module _ (remain : ¬ Remain sw L U bins) where
+    copies-form : {j : ℕ} (on : Bool) → anyOn sw ≡ on → Copies s table bins j
+        → (Formed Left × (leftOf (s .picture) (due s) ≡ some j)) ⊎ (Formed Up × (aboveOf (s .picture) (due s) ≡ some j))
+    copies-form true on (left e b) = inl (left-form sw L U bins on (ap (λ (o : Option ℕ). isThere (storedAt table o)) e) b, e)
+    copies-form true on (up e b) = inr (up-form sw L U bins on (ap (λ (o : Option ℕ). isThere (storedAt table o)) e) b, e)
+    copies-form false off (left e b) = absurd (remain (off-bins none off b))
+    copies-form false off (up e b) = absurd (remain (off-bins L off b))
+
+    -- bins of one form have no other
+    left-only : {j : ℕ} → Formed Left → Copies s table bins j → leftOf (s .picture) (due s) ≡ some j
+    left-only h c =
+        ⊎-elim (λ t. t .1) (λ t. let same : Left ≡ Up = read-form-unique sw _ _ bins _ _ h (t .0) in impossible cc) (copies-form (anyOn sw) refl c)
+
+    up-only : {j : ℕ} → Formed Up → Copies s table bins j → aboveOf (s .picture) (due s) ≡ some j
+    up-only h c =
+        ⊎-elim (λ t. let same : Up ≡ Left = read-form-unique sw _ _ bins _ _ h (t .0) in impossible cc) (λ t. t .1) (copies-form (anyOn sw) refl c)
+
+    full-none : {q : CtuSet} {j : ℕ} → Formed (Full q) → ¬ Copies s table bins j
+    full-none {q} h c =
+        ⊎-elim (λ t. let same : Full q ≡ Left = read-form-unique sw _ _ bins _ _ h (t .0) in impossible cc)
+        (λ t. let same : Full q ≡ Up = read-form-unique sw _ _ bins _ _ h (t .0) in impossible cc) (copies-form (anyOn sw) refl c)
+
+  -- ---- the answers
+
+  means : (f : Form) {q : CtuSet} → Formed f → resolved f L U ≡ some (answer.Set q) → Means sw L U q bins
+  means f h e = form-means sw bins f h L U refl refl e
+
+  pub answer-early : Formed form.TooEarly → Answers (Refused TooEarly)
+  answer-early h = (inl (form-early sw bins form.TooEarly h L U refl refl refl, refl), tt)
+
+  pub answer-remain : Formed form.BinsRemain → Answers (Refused BinsRemain)
+  answer-remain h =
+      let r = form-remain sw bins form.BinsRemain h L U refl refl refl in
+      (inr (λ e. early-not-remain e r, inl (r, refl)), tt)
+
+  pub answer-full : {q : CtuSet} → Formed (Full q) → Answers (Set q)
+  answer-full {q} h =
+      let m = means (Full q) h refl in
+      ((meant-not-early m, (meant-not-remain m, (λ t. full-none (meant-not-remain m) h (t .1), tt))), m)
+
+  -- a merge with a neighbour
+  module _ (near : Option ℕ) (f : Form) (h : Formed f) (resolves : resolved f L U ≡ copied (storedAt table near))
+      (copies : (q : CtuSet) (k : ℕ) → near ≡ some k → Means sw L U q bins → Copies s table bins k)
+      (only : (j : ℕ) → ¬ Remain sw L U bins → Copies s table bins j → near ≡ some j) where
+    merge-means : {k : ℕ} → near ≡ some k → Means sw L U (stored table k) bins
+    merge-means e = means f h (resolves ∙ ap (λ (o : Option ℕ). copied (storedAt table o)) e)
+
+    answer-merge : (r : ReadAnswer) → Copied sw table near r → Answers r
+    answer-merge (Set q) (k, e, holds) =
+        let m : Means sw L U q bins = subst (λ (a : CtuSet). Means sw L U a bins) (found-stored holds) (merge-means e) in
+        let remain = meant-not-remain m in
+        ((meant-not-early m, (remain, (λ t. t .2 (subst (Sound sw table) (there (sym (only (t .0) remain (t .1)) ∙ e)) (sound-of holds)), tt))), m)
+    answer-merge (Refused r) (e, bad) =
+        let k = neighbour table near (sym resolves ∙ h L U refl refl) in
+        let m = merge-means (k .1) in
+        (inr (meant-not-early m, inr (meant-not-remain m, inl ((k .0, copies _ (k .0) (k .1) m, bad (k .0) (k .1)), ap numberOf e))), tt)
+
+  pub answer-left : Formed Left → (r : ReadAnswer) → Copied sw table (leftOf (s .picture) (due s)) r → Answers r
+  answer-left h = answer-merge (leftOf (s .picture) (due s)) Left h refl (λ q k e m. left e (left-bins h m)) (λ j n c. left-only n h c)
+
+  pub answer-up : Formed Up → (r : ReadAnswer) → Copied sw table (aboveOf (s .picture) (due s)) r → Answers r
+  answer-up h = answer-merge (aboveOf (s .picture) (due s)) Up h refl (λ q k e m. up e (up-bins h m)) (λ j n c. up-only n h c)
+
+-- an answer about the bins is one about all the reasons
+pub answered : (s : State) (bytes : List ℕ) (count : ℕ) (table : List ℕ) (r : ReadAnswer) → Clear (take 5 (readReasons s bytes count table))
+    → Answered s bytes count table (drop 5 (readReasons s bytes count table)) r → Answered s bytes count table (readReasons s bytes count table) r
+answered s bytes count table (Set q) c h = (clear-both 5 (readReasons s bytes count table) c (h .0), h .1)
+answered s bytes count table (Refused r) c h = (first-back 5 (readReasons s bytes count table) (numberOf r) c (h .0), h .1)

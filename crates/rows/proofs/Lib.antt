@@ -1,0 +1,5 @@
+pub mod Signs
+pub mod Holds
+pub mod Scales
+pub mod Shifts
+pub mod Unique

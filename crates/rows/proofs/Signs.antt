@@ -1,0 +1,87 @@
+-- The sign of a difference of two naturals, the sum of two signs at 32 bits, and the category at such a sum:
+-- a signed number is known by the bits that a `match` tests.
+use mathlib.Core.Path.{_≡_, refl, sym, ap, ap₂, _∙_}
+use Prim.Native.Nat.{ℕ, zero, suc, _+_, _-_, _≤_, _<_}
+use native.Mathlib.Nat.{not-suc-le-zero, le-refl, sub-self, add-zero}
+use native.Mathlib.Omega.{arith}
+use borrow.Author.Tests.{lt-ltb, le-ltb}
+use lib.Dec.{lit<}
+use lib.IntN.{ℤ, pos, negsuc, _+ℤ_, _-ℤ_}
+use mir.Syntax.{w32}
+use mir.Val.{SFits, ofZ, toZ}
+use mir.ValLaws.{toZ-ofZ}
+use lib.ListN.{getD}
+use Rattle.standard.specs.Samples.{sign, edgeIdx, categories}
+use Rattle.standard.proofs.Tables.{category, category-is-edgeIdx}
+
+pub sign-lt : (s a : ℕ) → s < a → sign (pos s -ℤ pos a) ≡ negsuc 0
+unfolding sign
+sign-lt s zero h = absurd (not-suc-le-zero h)
+sign-lt s (suc a) h = simp (lt-ltb s (suc a) h)
+
+pub sign-eq : (a : ℕ) → sign (pos a -ℤ pos a) ≡ pos 0
+unfolding sign
+sign-eq zero = refl
+sign-eq (suc a) = simp (le-ltb (suc a) (suc a) (le-refl (suc a)), sub-self)
+
+pub sign-gt : (s a : ℕ) → a < s → sign (pos s -ℤ pos a) ≡ pos 1
+unfolding sign
+sign-gt zero a h = absurd (not-suc-le-zero h)
+sign-gt (suc s) zero h = simp add-zero
+sign-gt (suc s) (suc a) h =
+    let le : suc a ≤ suc s = omega arith in
+    let e : suc s - suc a ≡ suc (s - suc a) = omega arith in
+    simp (le-ltb (suc s) (suc a) le, e)
+
+-- the number that the machine reads back of a signed number's bits
+abbrev pub back : ℤ → ℤ
+back z = toZ w32 (ofZ w32 z)
+
+pub sum-fits : (x y : ℤ) → SFits w32 (back (sign x) +ℤ back (sign y))
+unfolding sign
+sum-fits (pos zero) (pos zero) = record { sfits = lit< tt }
+sum-fits (pos zero) (pos (suc n)) = record { sfits = lit< tt }
+sum-fits (pos zero) (negsuc n) = record { sfits = lit< tt }
+sum-fits (pos (suc m)) (pos zero) = record { sfits = lit< tt }
+sum-fits (pos (suc m)) (pos (suc n)) = record { sfits = lit< tt }
+sum-fits (pos (suc m)) (negsuc n) = record { sfits = lit< tt }
+sum-fits (negsuc m) (pos zero) = record { sfits = lit< tt }
+sum-fits (negsuc m) (pos (suc n)) = record { sfits = lit< tt }
+sum-fits (negsuc m) (negsuc n) = record { sfits = lit< tt }
+
+-- two more than what the machine has for the sum: as the standard adds
+sum-is : (x y : ℤ) → pos 2 +ℤ back (back (sign x) +ℤ back (sign y)) ≡ pos 2 +ℤ sign x +ℤ sign y
+unfolding sign
+sum-is (pos zero) (pos zero) = refl
+sum-is (pos zero) (pos (suc n)) = refl
+sum-is (pos zero) (negsuc n) = refl
+sum-is (pos (suc m)) (pos zero) = refl
+sum-is (pos (suc m)) (pos (suc n)) = refl
+sum-is (pos (suc m)) (negsuc n) = refl
+sum-is (negsuc m) (pos zero) = refl
+sum-is (negsuc m) (pos (suc n)) = refl
+sum-is (negsuc m) (negsuc n) = refl
+
+pub sum-of : (x y : ℤ) {S T : ℤ} → S ≡ sign x → T ≡ sign y → pos 2 +ℤ back (back S +ℤ back T) ≡ pos 2 +ℤ sign x +ℤ sign y
+sum-of x y p q = ap₂ (λ (s t : ℤ). pos 2 +ℤ back (back s +ℤ back t)) p q ∙ sum-is x y
+
+-- the category of the sum whose bits are n
+pub key : (s : ℤ) (n : ℕ) → SFits w32 s → ofZ w32 s ≡ n → category (toZ w32 n) ≡ edgeIdx (pos 2 +ℤ s)
+key s n f e = ap (λ (m : ℕ). category (toZ w32 m)) (sym e) ∙ ap category (toZ-ofZ w32 s f) ∙ category-is-edgeIdx s
+
+other : (s : ℤ) → (ofZ w32 s ≡ 4294967294 → ⊥) → (ofZ w32 s ≡ 4294967295 → ⊥) → (ofZ w32 s ≡ 1 → ⊥) → (ofZ w32 s ≡ 2 → ⊥) → 0 ≡ category s
+other (pos zero) a b c d = refl
+other (pos (suc zero)) a b c d = absurd (c refl)
+other (pos (suc (suc zero))) a b c d = absurd (d refl)
+other (pos (suc (suc (suc n)))) a b c d = refl
+other (negsuc zero) a b c d = absurd (b refl)
+other (negsuc (suc zero)) a b c d = absurd (a refl)
+other (negsuc (suc (suc n))) a b c d = refl
+
+pub rest : (s : ℤ) → (ofZ w32 s ≡ 4294967294 → ⊥) → (ofZ w32 s ≡ 4294967295 → ⊥) → (ofZ w32 s ≡ 1 → ⊥) → (ofZ w32 s ≡ 2 → ⊥) → 0 ≡ edgeIdx (pos 2 +ℤ s)
+rest s a b c d = other s a b c d ∙ category-is-edgeIdx s
+
+-- the match agrees with the table of categories
+pub match-is-table : (s : ℤ) (n : ℕ) → pos 2 +ℤ s ≡ pos n → category s ≡ getD categories n 0
+unfolding edgeIdx
+match-is-table s n e = category-is-edgeIdx s ∙ ap edgeIdx e

@@ -1,0 +1,9 @@
+pub mod Machine
+pub mod Tables
+pub mod Reach
+pub mod Borders
+pub mod Assembly
+pub mod Pieces
+pub mod Standard
+pub mod Order
+pub mod Unique

@@ -1,0 +1,5 @@
+pub mod Bits
+pub mod Packed
+pub mod Loop
+pub mod Truncated
+pub mod Signed

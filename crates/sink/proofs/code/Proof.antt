@@ -1,0 +1,28 @@
+-- The sum is from 0 to 255, so no cast changes it.
+use mathlib.Core.Path.{ap, subst, sym}
+use lib.IntN.{ℤ, natAbs}
+use lib.Signed.{nonNeg}
+use lib.Dec.{T}
+use mir.Syntax.{w8, w32}
+use mir.Val.{Fits}
+use native.Mathlib.Omega.{arith}
+use Rattle.sink.proofs.Signed.{small, backed, code-fits, coded, code-lt}
+use Rattle.sink.proofs.code.Statement.{statement}
+use Rattle.sink.proofs.code.Tie as tie
+
+cast-result : tie.Need-cast-result
+cast-result c = rw (backed w8 (c .args .o) (c .fits .o .sfits)) (small w32 (c .args .o) (omega (arith, c .fits .o .sfits)))
+
+add-result : tie.Need-add-result
+add-result c = code-fits (c .args .o) (c .fits .o .sfits)
+
+cast-result-2 : tie.Need-cast-result-2
+cast-result-2 c =
+    subst (λ (z : ℤ). T (nonNeg z) × Fits w32 (natAbs z)) (sym (coded (c .args .o) (c .fits .o .sfits)))
+    (tt, record { fits = omega (arith, code-lt (c .args .o) (c .fits .o .sfits)) })
+
+returns : tie.Need-returns
+returns c = ap natAbs (coded (c .args .o) (c .fits .o .sfits))
+
+pub code-spec : {M : Type 1} → statement M
+code-spec = tie.close (tie.spec cast-result add-result cast-result-2 returns)

@@ -1,0 +1,68 @@
+-- The executable stage computes: a picture of one CTU, from its opening to its finished rows.
+use mathlib.Core.Path.{_≡_, refl}
+use mathlib.Core.Bool.{true, false}
+use mathlib.Core.List.{List, [], _∷_, _++_}
+use Prim.Native.Nat.{ℕ}
+use native.Mathlib.Decide.{ℕ-discrete, decLe, decLt}
+use lib.IntN.{pos, negsuc}
+use lib.ListN.{replicate}
+use Rattle.standard.specs.declared.CtuSet.{CtuSet}
+use Rattle.standard.specs.declared.Offsets.the-variants.{Off, Edge}
+use Rattle.standard.specs.Picture.{depthOf, divisors, address, leftOf, aboveOf, rectangle, grown}
+use Rattle.standard.specs.Sets.{largest}
+use Rattle.standard.specs.Bins.{truncated, fixedLength, bitsOf, binsOf, magnitudes, rest, full, number, bytesOf, packed}
+use Rattle.standard.specs.Samples.{shiftOf, layoutOf, offsetVal, clip, stepsOf, sign, edgeIdx, counts, neighbour, edgeIdxOf, kept, edgeSample, modified, sample, tabulate, planeBy}
+use Rattle.standard.specs.Table.{encodeOffsets, encode, entry, decodeOffsets, decode, stored, entered}
+use Rattle.standard.proofs.Refusing.{openVerdict, readVerdict, writeVerdict, deliverVerdict, filterVerdict, rowsVerdict}
+use Rattle.standard.proofs.Judging.{valid?, same-bytes?}
+use Rattle.promises.specs.World.{World, Open, Read, Write, Deliver, Filter, Rows, refused, done, set-read, rows}
+use Rattle.promises.specs.Demands.{run}
+use Rattle.promises.specs.Ours.{ours, act}
+
+-- monochrome, 8 by 8, depth 8, luma on; as it is lent, with nothing in it right but its lengths
+abbrev lent : World
+lent = record {
+  state = record { picture = record { width = 8; height = 8; ctb = 16; format = 0; depth = 8; luma = true; chroma = false }; next = 7 };
+  deblocked = record { y = replicate 64 9; cb = []; cr = [] };
+  filtered = record { y = replicate 64 9; cb = []; cr = [] };
+  marks = 3 ∷ [];
+  table = replicate 18 5;
+}
+
+-- document 01's case 3: edge, class 2, offsets 1, 0, 0, -2
+abbrev edge : CtuSet
+edge = record { luma = Edge 2 (pos 1) (pos 0) (pos 0) (negsuc 1); cb = Off; cr = Off }
+
+-- a block of zeros but for one sample in its middle
+abbrev block : ℕ → List ℕ
+block s = replicate 27 0 ++ (s ∷ replicate 36 0)
+
+-- before the opening neither state nor marks are sound
+pub unsound : ours (Rows 0) lent .answer ≡ refused 14
+unfolding ours rowsVerdict ℕ-discrete decLe decLt divisors
+unsound = refl
+
+abbrev opened : World
+opened = ours Open lent .world
+
+pub opens : ours Open lent .answer ≡ done
+unfolding ours act openVerdict ℕ-discrete decLe decLt
+opens = refl
+
+-- one bin is missing; none is; and they are written as they were read
+pub early : ours (Read (227 ∷ 64 ∷ []) 10) opened .answer ≡ refused 5
+unfolding ours act openVerdict readVerdict ℕ-discrete decLe decLt leftOf address aboveOf binsOf bitsOf fixedLength largest depthOf
+early = refl
+
+pub reads : ours (Read (227 ∷ 64 ∷ []) 11) opened .answer ≡ set-read edge
+unfolding ours act openVerdict readVerdict ℕ-discrete decLe decLt leftOf address aboveOf binsOf bitsOf fixedLength largest depthOf
+reads = refl
+
+pub writes : ours (Write edge (85 ∷ 85 ∷ 85 ∷ [])) opened .out ≡ 227 ∷ 64 ∷ 85 ∷ []
+unfolding ours act openVerdict writeVerdict ℕ-discrete decLe decLt leftOf address aboveOf largest depthOf full truncated rest magnitudes fixedLength packed bytesOf number
+writes = refl
+
+-- the sample in the middle is a local maximum
+pub finishes : ours (Rows 0) (run ours (Open ∷ Read (227 ∷ 64 ∷ []) 11 ∷ Deliver 0 0 (block 5) ∷ Filter 0 0 ∷ []) lent) .answer ≡ rows 8 (block 3)
+unfolding ours act openVerdict readVerdict deliverVerdict filterVerdict rowsVerdict ℕ-discrete decLe decLt leftOf address aboveOf binsOf bitsOf fixedLength largest depthOf divisors rectangle grown planeBy tabulate entered encode encodeOffsets stored entry decode decodeOffsets shiftOf layoutOf offsetVal clip stepsOf sign edgeIdx counts neighbour edgeIdxOf kept edgeSample modified sample valid? same-bytes?
+finishes = refl

@@ -1,0 +1,52 @@
+-- The counts of the two parts, with M of each component.
+use borrow.Author.Needs.{needs}
+use mathlib.Core.Path.{ap, ap₂, _∙_}
+use Prim.Native.Nat.{ℕ}
+use native.Mathlib.Omega.{arith}
+use lib.ListN.{length}
+use Rattle.standard.specs.Sets.{switchesOf}
+use Rattle.writer.proofs.Lengths.{lumaBins, chromaBins, full-parts}
+use Rattle.writer.proofs.bins_of_full.Statement.{statement}
+use Rattle.writer.proofs.bins_of_full.Tie as tie
+use Rattle.writer.proofs.bins_of_full.Reads as reads
+use Rattle.writer.proofs.bins_of_full.Lts as lts
+use Rattle.writer.proofs.bins_of_chroma.Reads as bins-of-chroma-reads
+use Rattle.writer.proofs.bins_of_luma.Reads as bins-of-luma-reads
+use Rattle.writer.proofs.most.Reads as most-reads
+
+most-requires : tie.Need-most-requires
+most-requires c κs = search needs
+
+bins-of-luma-requires : tie.Need-bins-of-luma-requires
+bins-of-luma-requires c κs = search needs
+
+most-requires-2 : tie.Need-most-requires-2
+most-requires-2 c κs = search needs
+
+most-requires-3 : tie.Need-most-requires-3
+most-requires-3 c κs = search needs
+
+bins-of-chroma-requires : tie.Need-bins-of-chroma-requires
+bins-of-chroma-requires c κs = search needs
+
+add-result : tie.Need-add-result
+add-result c = search needs
+
+returns : tie.Need-returns
+returns c =
+    let a = c .before .before .before .before .before .args in
+    let luma = ap (λ (m : ℕ). length (lumaBins (a .p .luma) m (a .q .luma))) (c .before .before .before .before .most .ensures .0) in
+    let chroma = ap₂ (λ (m n : ℕ). length (chromaBins (a .p .chroma) m (a .q .cb) n (a .q .cr))) (c .before .before .most2 .ensures .0) (c .before .most3 .ensures .0) in
+    (omega (arith, c .before .before .before .bins-of-luma .ensures .0, luma, c .bins-of-chroma .ensures .0, chroma, full-parts (switchesOf (a .p)) (a .q)), omega (arith, c .before .before .before .bins-of-luma .ensures .1, c .bins-of-chroma .ensures .1))
+
+pub bins-of-full-spec : {M : Type 1} → statement M
+bins-of-full-spec =
+    tie.close
+    (tie.spec
+    most-requires
+    bins-of-luma-requires
+    most-requires-2
+    most-requires-3
+    bins-of-chroma-requires
+    add-result
+    returns)

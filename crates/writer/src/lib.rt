@@ -1,0 +1,324 @@
+// Writes a CTU's set as bins at the front of lent bytes: a merge to the left if that set is equal, else
+// a merge upwards, else the full form. The bins are counted before any is put, so that bytes which
+// cannot hold them all are left as they were. The set need not be within the rules.
+use sink::Put;
+use standard::CtuSet;
+use standard::Offsets;
+use standard::Picture;
+ghost use mathlib.Core.Path.{_≡_};
+ghost use mathlib.Core.List.{_++_};
+ghost use Prim.Native.Nat.{_≤_, _<_};
+ghost use lib.IntN.{natAbs};
+ghost use lib.ListN.{length};
+ghost use Rattle.standard.specs.declared.Offsets.the-variants.{Band};
+ghost use Rattle.standard.specs.Picture.{Rules};
+ghost use Rattle.standard.specs.Sets.{most, switchesOf};
+ghost use Rattle.standard.specs.Bins.{truncated, magnitudes, signBins, typeBins, rest, restOfCr, when, full};
+ghost use Rattle.standard.specs.Means.{anyOn, notTaken};
+ghost use Rattle.standard.specs.Refusals.{Tells};
+ghost use Rattle.sink.specs.Puts.{Room, Puts};
+ghost use Rattle.writer.specs.Forms.{setOf, Meant, copies, chosen, formBins, written};
+ghost use Rattle.writer.specs.Outcome.{Writes};
+
+// The set of a neighbour that a merge may reach, where there is one.
+pub enum Near {
+    Nothing,
+    Set(CtuSet),
+}
+
+// The forms of a CTU's bins.
+pub enum Form {
+    Empty,
+    Left,
+    Up,
+    Full,
+}
+
+// How many bins were written; or the bytes cannot hold them.
+pub enum Wrote {
+    Bins(usize),
+    NoRoom,
+}
+
+// M of a component.
+fn most(p: Picture, component: u8) -> u32
+    requires { ⌜ Rules p ⌝ }
+    ensures { λ r. ⌜ (r ≡ most (switchesOf p) component) × (r < 32) ⌝ }
+{
+    geometry::largest_magnitude(geometry::depth_of(p, component))
+}
+
+// ---- how many bins there are
+
+fn bins_of_magnitude(m: u32, o: i8) -> usize
+    requires { ⌜ m < 32 ⌝ }
+    ensures { λ r. ⌜ (r ≡ length (truncated m (natAbs o))) × (r ≤ 31) ⌝ }
+{
+    let v = sink::magnitude(o);
+    if v < m { v as usize + 1 } else { m as usize }
+}
+
+fn bins_of_sign(o: i8) -> usize
+    ensures { λ r. ⌜ (r ≡ length (signBins o)) × (r ≤ 1) ⌝ }
+{
+    let v = sink::magnitude(o);
+    if v == 0 { 0 } else { 1 }
+}
+
+fn bins_of_magnitudes(m: u32, o1: i8, o2: i8, o3: i8, o4: i8) -> usize
+    requires { ⌜ m < 32 ⌝ }
+    ensures { λ r. ⌜ (r ≡ length (magnitudes m o1 o2 o3 o4)) × (r ≤ 124) ⌝ }
+{
+    bins_of_magnitude(m, o1)
+        + bins_of_magnitude(m, o2)
+        + bins_of_magnitude(m, o3)
+        + bins_of_magnitude(m, o4)
+}
+
+fn bins_of_band(m: u32, position: u8, o1: i8, o2: i8, o3: i8, o4: i8) -> usize
+    requires { ⌜ m < 32 ⌝ }
+    ensures { λ r. ⌜ (r ≡ length (rest m (Band position o1 o2 o3 o4))) × (r ≤ 133) ⌝ }
+{
+    bins_of_magnitudes(m, o1, o2, o3, o4)
+        + bins_of_sign(o1)
+        + bins_of_sign(o2)
+        + bins_of_sign(o3)
+        + bins_of_sign(o4)
+        + 5
+}
+
+fn bins_of_type(o: Offsets) -> usize
+    ensures { λ r. ⌜ (r ≡ length (typeBins o)) × (r ≤ 2) ⌝ }
+{
+    match o {
+        Offsets::Off => 1,
+        Offsets::Band {
+            position: _,
+            o1: _,
+            o2: _,
+            o3: _,
+            o4: _,
+        } => 2,
+        Offsets::Edge {
+            class: _,
+            o1: _,
+            o2: _,
+            o3: _,
+            o4: _,
+        } => 2,
+    }
+}
+
+fn bins_of_rest(m: u32, o: Offsets) -> usize
+    requires { ⌜ m < 32 ⌝ }
+    ensures { λ r. ⌜ (r ≡ length (rest m o)) × (r ≤ 133) ⌝ }
+{
+    match o {
+        Offsets::Off => 0,
+        Offsets::Band {
+            position,
+            o1,
+            o2,
+            o3,
+            o4,
+        } => bins_of_band(m, position, o1, o2, o3, o4),
+        Offsets::Edge {
+            class: _,
+            o1,
+            o2,
+            o3,
+            o4,
+        } => bins_of_magnitudes(m, o1, o2, o3, o4) + 2,
+    }
+}
+
+fn bins_of_rest_of_cr(m: u32, o: Offsets) -> usize
+    requires { ⌜ m < 32 ⌝ }
+    ensures { λ r. ⌜ (r ≡ length (restOfCr m o)) × (r ≤ 133) ⌝ }
+{
+    match o {
+        Offsets::Off => 0,
+        Offsets::Band {
+            position,
+            o1,
+            o2,
+            o3,
+            o4,
+        } => bins_of_band(m, position, o1, o2, o3, o4),
+        Offsets::Edge {
+            class: _,
+            o1,
+            o2,
+            o3,
+            o4,
+        } => bins_of_magnitudes(m, o1, o2, o3, o4),
+    }
+}
+
+fn bins_of_luma(on: bool, m: u32, y: Offsets) -> usize
+    requires { ⌜ m < 32 ⌝ }
+    ensures { λ r. ⌜ (r ≡ length (when on (typeBins y ++ rest m y))) × (r ≤ 135) ⌝ }
+{
+    if on {
+        return bins_of_type(y) + bins_of_rest(m, y);
+    }
+    0
+}
+
+fn bins_of_chroma(on: bool, m: u32, cb: Offsets, n: u32, cr: Offsets) -> usize
+    requires { ⌜ (m < 32) × (n < 32) ⌝ }
+    ensures { λ r. ⌜ (r ≡ length (when on (typeBins cb ++ (rest m cb ++ restOfCr n cr)))) × (r ≤ 268) ⌝ }
+{
+    if on {
+        return bins_of_type(cb) + bins_of_rest(m, cb) + bins_of_rest_of_cr(n, cr);
+    }
+    0
+}
+
+fn bins_of_full(p: Picture, q: CtuSet) -> usize
+    requires { ⌜ Rules p ⌝ }
+    ensures { λ r. ⌜ (r ≡ length (full (switchesOf p) q)) × (r ≤ 403) ⌝ }
+{
+    let y = q.luma;
+    let cb = q.cb;
+    let cr = q.cr;
+    let luma = p.luma;
+    let chroma = p.chroma;
+    let n = bins_of_luma(luma, most(p, 0), y);
+    n + bins_of_chroma(chroma, most(p, 1), cb, most(p, 2), cr)
+}
+
+fn bins_of_not_taken(near: Near) -> usize
+    ensures { λ r. ⌜ (r ≡ length (notTaken (setOf near))) × (r ≤ 1) ⌝ }
+{
+    match near {
+        Near::Nothing => 0,
+        Near::Set(_) => 1,
+    }
+}
+
+fn bins_of_form(form: Form, p: Picture, left: Near, up: Near, q: CtuSet) -> usize
+    requires { ⌜ Rules p ⌝ }
+    ensures { λ r. ⌜ (r ≡ length (formBins (switchesOf p) (setOf left) (setOf up) q form)) × (r ≤ 405) ⌝ }
+{
+    match form {
+        Form::Empty => 0,
+        Form::Left => 1,
+        Form::Up => bins_of_not_taken(left) + 1,
+        Form::Full => bins_of_not_taken(left) + bins_of_not_taken(up) + bins_of_full(p, q),
+    }
+}
+
+// ---- which form
+
+fn any_on(p: Picture) -> bool
+    ensures { λ r. ⌜ r ≡ anyOn (switchesOf p) ⌝ }
+{
+    let luma = p.luma;
+    if luma {
+        return true;
+    }
+    p.chroma
+}
+
+fn is_copy(near: Near, q: CtuSet) -> bool
+    ensures { λ r. ⌜ r ≡ copies (setOf near) q ⌝ }
+{
+    match near {
+        Near::Nothing => false,
+        Near::Set(n) => sets::same_set(n, q),
+    }
+}
+
+// A merge to the left has one bin, so it goes before a merge upwards, which has two where there is a
+// left neighbour.
+fn choose(p: Picture, left: Near, up: Near, q: CtuSet) -> Form
+    ensures { λ r. ⌜ r ≡ chosen (switchesOf p) (setOf left) (setOf up) q ⌝ }
+{
+    if !any_on(p) {
+        return Form::Empty;
+    }
+    if is_copy(left, q) {
+        return Form::Left;
+    }
+    if is_copy(up, q) {
+        return Form::Up;
+    }
+    Form::Full
+}
+
+// Whether some bins mean the set: it is within the rules, or a merge copies it.
+pub fn has_bins(p: Picture, left: Near, up: Near, q: CtuSet) -> bool
+    ensures { λ r. ⌜ Tells (Meant (switchesOf p) (setOf left) (setOf up) q) r ⌝ }
+{
+    if sets::is_valid(p, q) {
+        return true;
+    }
+    if !any_on(p) {
+        return false;
+    }
+    let copied = is_copy(left, q);
+    if copied {
+        return true;
+    }
+    is_copy(up, q)
+}
+
+// ---- the bins
+
+fn put_not_taken(c: Put, out: &mut [u8], near: Near) -> Put
+    requires { ⌜ Room (c .at) (length (notTaken (setOf near))) (now out) ⌝ }
+    ensures { λ r. ⌜ Puts (c .at) (notTaken (setOf near)) (now (out .entry)) (now (out .exit)) (r .at) ⌝ }
+{
+    match near {
+        Near::Nothing => c,
+        Near::Set(_) => c.bits(out, 1, 0),
+    }
+}
+
+fn put_full(c: Put, out: &mut [u8], p: Picture, q: CtuSet) -> Put
+    requires { ⌜ Room (c .at) (length (full (switchesOf p) q)) (now out) ⌝ }
+    requires { ⌜ Rules p ⌝ }
+    ensures { λ r. ⌜ Puts (c .at) (full (switchesOf p) q) (now (out .entry)) (now (out .exit)) (r .at) ⌝ }
+{
+    let y = q.luma;
+    let cb = q.cb;
+    let cr = q.cr;
+    let luma = p.luma;
+    let chroma = p.chroma;
+    let c1 = c.luma(out, luma, most(p, 0), y);
+    c1.chroma(out, chroma, most(p, 1), cb, most(p, 2), cr)
+}
+
+fn put_form(c: Put, out: &mut [u8], form: Form, p: Picture, left: Near, up: Near, q: CtuSet) -> Put
+    requires { ⌜ Room (c .at) (length (formBins (switchesOf p) (setOf left) (setOf up) q form)) (now out) ⌝ }
+    requires { ⌜ Rules p ⌝ }
+    ensures { λ r. ⌜ Puts (c .at) (formBins (switchesOf p) (setOf left) (setOf up) q form) (now (out .entry)) (now (out .exit)) (r .at) ⌝ }
+{
+    match form {
+        Form::Empty => c,
+        Form::Left => c.bits(out, 1, 1),
+        Form::Up => {
+            let c1 = put_not_taken(c, out, left);
+            c1.bits(out, 1, 1)
+        }
+        Form::Full => {
+            let c1 = put_not_taken(c, out, left);
+            let c2 = put_not_taken(c1, out, up);
+            put_full(c2, out, p, q)
+        }
+    }
+}
+
+pub fn write_set(p: Picture, left: Near, up: Near, q: CtuSet, out: &mut [u8]) -> Wrote
+    requires { ⌜ Rules p ⌝ }
+    ensures { λ r. ⌜ Writes (written (switchesOf p) (setOf left) (setOf up) q) (now (out .entry)) (now (out .exit)) r ⌝ }
+{
+    let form = choose(p, left, up, q);
+    let n = bins_of_form(form, p, left, up, q);
+    if (n + 7) / 8 > out.len() {
+        return Wrote::NoRoom;
+    }
+    put_form(Put { at: 0 }, out, form, p, left, up, q);
+    Wrote::Bins(n)
+}

@@ -1,0 +1,79 @@
+-- No neighbour has no entry; of a neighbour's entry, what is found there.
+use mathlib.Core.Path.{_≡_, refl, sym, ap, subst}
+use borrow.Author.Needs.{needs}
+use denote.Ref.{now}
+use Rattle.standard.specs.Sets.{switchesOf}
+use Rattle.geometry.specs.declared.Near.{Near}
+use Rattle.geometry.specs.Geometry.{nearOf}
+use Rattle.lent.specs.Due.{InTable}
+use Rattle.sets.specs.declared.Found.{Found}
+use Rattle.sets.specs.Entries.{Finds}
+use Rattle.sets.proofs.Finding.{sound-of, found-stored}
+use mathlib.Core.Option.{some}
+use Rattle.writer.specs.declared.Near.the-variants as beside
+use Rattle.writing.specs.declared.Side.{Side}
+use Rattle.writing.specs.declared.Side.the-variants as side
+use Rattle.writing.specs.Writing.{Beside}
+use Rattle.writing.proofs.beside.Statement.{statement}
+use Rattle.writing.proofs.beside.Tie as tie
+
+enum-told : tie.Need-enum-told
+enum-told c = search needs
+
+enum-known-k : tie.Need-enum-known-k
+enum-known-k c = search needs
+
+cast-get-set : tie.Need-cast-get-set
+cast-get-set c = search needs
+
+get-set-requires : tie.Need-get-set-requires
+get-set-requires c κs =
+    let s = c .before .before .before .before .before in
+    subst (λ (n : Near). InTable (now (s .args .table)) (nearOf n)) (c .before .k .given .1) (s .pre)
+
+enum-told-2 : tie.Need-enum-told-2
+enum-told-2 c = search needs
+
+enum-known-q : tie.Need-enum-known-q
+enum-known-q c = search needs
+
+-- what is beside a CTU whose neighbour is n
+abbrev At : tie.Start → Near → Side → Type 0
+At s n r = Beside (s .args .state) (now (s .args .table)) (nearOf n) r
+
+returns : tie.Need-returns
+returns c =
+    let s = c .before .before .before .before in
+    subst (λ (n : Near). At s n (side.Near beside.Nothing)) (sym (c .enum-told .given .1)) (refl, λ b. b)
+
+abbrev s : tie.After-get-set → tie.Start
+s c = c .before .before .before .before .before .before
+
+found : (c : tie.After-get-set) {r : Found} → c .get-set .result ≡ r
+    → Finds (switchesOf (s c .args .state .picture)) (now (s c .args .table)) (c .before .before .k .given .0 .0) r
+found c e = subst (Finds (switchesOf (s c .args .state .picture)) (now (s c .args .table)) (c .before .before .k .given .0 .0)) e (c .get-set .ensures)
+
+returns-2 : tie.Need-returns-2
+returns-2 c =
+    let g = c .before .before in
+    subst (λ (n : Near). At (s g) n side.Bad) (sym (g .before .before .k .given .1)) (found g (c .enum-told2 .given .1))
+
+returns-3 : tie.Need-returns-3
+returns-3 c =
+    let g = c .before .before .before in
+    let holds = found g (c .before .q .given .1) in
+    subst (λ (n : Near). At (s g) n (side.Near (beside.Set (c .before .q .given .0 .0)))) (sym (g .before .before .k .given .1)) (ap some (sym (found-stored holds)), λ bad. bad (sound-of holds))
+
+pub beside-spec : {M : Type 1} → statement M
+beside-spec =
+    tie.close
+    (tie.spec
+    enum-told
+    enum-known-k
+    cast-get-set
+    get-set-requires
+    enum-told-2
+    enum-known-q
+    returns
+    returns-2
+    returns-3)

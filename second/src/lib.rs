@@ -11,7 +11,7 @@
 //!
 //! [`stage`] has the six calls, [`world`] drives them on one set of lent buffers, [`vectors`] and [`replay`] put real
 //! pictures through them, [`random`], [`generate`] and [`runs`] make pictures, sets, samples and calls for long runs,
-//! [`stored`] makes what the proved programs are run on and must write.
+//! [`stored`] and [`stored_runs`] make what the proved programs are run on and must write.
 
 pub mod bins;
 pub mod filter;
@@ -24,6 +24,7 @@ pub mod runs;
 pub mod sets;
 pub mod stage;
 pub mod stored;
+pub mod stored_runs;
 pub mod table;
 pub mod vectors;
 pub mod world;

@@ -5,6 +5,7 @@
 
 use second::replay::{Tally, through_the_stage};
 use second::stored::bytes;
+use second::stored_runs;
 use second::vectors::Vector;
 use second::{Picture, filter_picture};
 use std::io::{self, Write};
@@ -18,7 +19,7 @@ struct Command {
 
 const COMMANDS: [Command; 2] = [
     Command { name: "vectors", given: "FILE...", run: vectors },
-    Command { name: "stored", given: "cases|blocks stdin|stdout", run: stored },
+    Command { name: "stored", given: "cases|blocks|replay stdin|stdout", run: stored },
 ];
 
 enum Mistake {
@@ -70,7 +71,7 @@ fn vectors(files: &[String], out: &mut dyn Write) -> Result<(), Mistake> {
 /// Writes what a proved program is run on, or what it must write.
 fn stored(names: &[String], out: &mut dyn Write) -> Result<(), Mistake> {
     let found = match names {
-        [program, file] => bytes(program, file),
+        [program, file] => bytes(program, file).or_else(|| stored_runs::bytes(program, file)),
         _ => None,
     };
     let found = found.ok_or_else(|| Mistake::CommandLine(format!("no such stored file; {}", usage())))?;

@@ -16,10 +16,10 @@ use Rattle.standard.specs.declared.WriteOutcome.{WriteOutcome}
 use Rattle.standard.specs.declared.RowsAnswer.{RowsAnswer}
 use Rattle.standard.specs.declared.RowsAnswer.the-variants as counted
 use Rattle.standard.specs.declared.RowsOutcome.{RowsOutcome}
-use Rattle.standard.specs.Refusals.{numberOf}
+use Rattle.standard.specs.Refusals.{numberOf, Reason}
 use Rattle.standard.specs.Reasons.{Planes, rowsReasons}
 use Rattle.standard.specs.Calls.{FinishedRows}
-use Rattle.standard.specs.Contracts.{OpenEnsures, DeliverEnsures, FilterEnsures, ReadEnsures, WriteEnsures, RowsDecides, RowsEnsures, PartEnsures}
+use Rattle.standard.specs.Contracts.{Judged, OpenEnsures, DeliverEnsures, FilterEnsures, ReadEnsures, WriteEnsures, RowsDecides, RowsEnsures, PartEnsures}
 use Rattle.standard.proofs.Decisions.{differ, Verdict, refusal, clear}
 use Rattle.standard.proofs.Numbers.{numberOf-injective, first-unique, first-not-clear}
 use Rattle.standard.proofs.Refusing.{rowsVerdict}
@@ -132,3 +132,11 @@ part-pinned {s} {i} {filtered} {marks} {a} {b} h k = go (rowsVerdict s i filtere
     go : Verdict (rowsReasons s i filtered marks) → a ≡ b
     go (refusal n f) = h .refused n f ∙ sym (k .refused n f)
     go (clear c) = h .finished c _ (rows-finished s i marks) ∙ sym (k .finished c _ (rows-finished s i marks))
+
+-- ---- a verdict alone
+
+pub judged-pinned : (rs : List Reason) (a b : code.Answer) → Judged rs a → Judged rs b → a ≡ b
+judged-pinned rs answer.Done answer.Done h k = refl
+judged-pinned rs answer.Done (answer.Refused r) h k = absurd (first-not-clear rs (numberOf r) k h)
+judged-pinned rs (answer.Refused r) answer.Done h k = absurd (first-not-clear rs (numberOf r) h k)
+judged-pinned rs (answer.Refused r) (answer.Refused t) h k = ap answer.Refused (numberOf-injective r t (first-unique rs h k))

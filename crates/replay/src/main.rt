@@ -236,9 +236,10 @@ fn print_rows(a: RowsAnswer) {
 
 // ---- the calls
 
-fn open(state: State, marks: &mut [u8]) -> State {
+fn open(state: State, lent: Lent, marks: &mut [u8]) -> State {
     io::write_all(1, b"o");
-    let o = opening::open(state, marks);
+    let n = at_most(lent.marks, marks.len());
+    let o = opening::open(state, &mut marks[..n]);
     let a = o.answer;
     print_answer(a);
     let after = o.state;
@@ -264,10 +265,11 @@ fn read_into(state: State, head: &[u8; 8], bytes: &mut [u8], table: &mut [u8]) -
     after
 }
 
-fn read(state: State, head: &[u8; 8], table: &mut [u8]) -> State {
+fn read(state: State, lent: Lent, head: &[u8; 8], table: &mut [u8]) -> State {
     io::write_all(1, b"r");
+    let n = at_most(lent.table, table.len());
     let mut bytes = [0u8; 64];
-    read_into(state, head, &mut bytes, table)
+    read_into(state, head, &mut bytes, &mut table[..n])
 }
 
 fn offset_of(b: u8) -> i8 {
@@ -316,12 +318,13 @@ fn write_into(state: State, head: &[u8; 8], q: CtuSet, room: &mut [u8], table: &
     after
 }
 
-fn write(state: State, head: &[u8; 8], table: &mut [u8]) -> State {
+fn write(state: State, lent: Lent, head: &[u8; 8], table: &mut [u8]) -> State {
     io::write_all(1, b"w");
+    let n = at_most(lent.table, table.len());
     let mut entry = [0u8; 18];
     io::read_full(0, &mut entry);
     let mut room = [head[2]; 64];
-    write_into(state, head, set_of(&entry), &mut room, table)
+    write_into(state, head, set_of(&entry), &mut room, &mut table[..n])
 }
 
 fn made(samples: &mut [u16], base: u16, spread: u16, seed: u32) {
@@ -406,6 +409,7 @@ fn deliver_from(
 
 fn deliver(
     state: State,
+    lent: Lent,
     head: &[u8; 8],
     y: &mut [u16],
     cb: &mut [u16],
@@ -413,12 +417,25 @@ fn deliver(
     marks: &mut [u8],
 ) -> State {
     io::write_all(1, b"d");
+    let ny = at_most(lent.y, y.len());
+    let ncb = at_most(lent.cb, cb.len());
+    let ncr = at_most(lent.cr, cr.len());
+    let n = at_most(lent.marks, marks.len());
     let mut samples = [0u16; 1024];
-    deliver_from(state, head, &mut samples, y, cb, cr, marks)
+    deliver_from(
+        state,
+        head,
+        &mut samples,
+        &mut y[..ny],
+        &mut cb[..ncb],
+        &mut cr[..ncr],
+        &mut marks[..n],
+    )
 }
 
 fn filter(
     state: State,
+    lent: Lent,
     head: &[u8; 8],
     y: &[u16],
     cb: &[u16],
@@ -430,18 +447,26 @@ fn filter(
     table: &[u8],
 ) -> State {
     io::write_all(1, b"f");
+    let ny = at_most(lent.y, y.len());
+    let ncb = at_most(lent.cb, cb.len());
+    let ncr = at_most(lent.cr, cr.len());
+    let my = at_most(lent.out_y, out_y.len());
+    let mcb = at_most(lent.out_cb, out_cb.len());
+    let mcr = at_most(lent.out_cr, out_cr.len());
+    let nm = at_most(lent.marks, marks.len());
+    let nt = at_most(lent.table, table.len());
     let o = filtering::filter(
         state,
         head[1],
         n_of(head),
-        y,
-        cb,
-        cr,
-        out_y,
-        out_cb,
-        out_cr,
-        marks,
-        table,
+        &y[..ny],
+        &cb[..ncb],
+        &cr[..ncr],
+        &mut out_y[..my],
+        &mut out_cb[..mcb],
+        &mut out_cr[..mcr],
+        &mut marks[..nm],
+        &table[..nt],
     );
     let a = o.answer;
     print_answer(a);
@@ -449,8 +474,27 @@ fn filter(
     after
 }
 
+fn rows_of<'a>(
+    state: State,
+    component: u8,
+    out_y: &'a [u16],
+    out_cb: &'a [u16],
+    out_cr: &'a [u16],
+    marks: &[u8],
+) -> State {
+    let o = finishing::finished_count(state, component, out_y, out_cb, out_cr, marks);
+    let a = o.answer;
+    print_rows(a);
+    let part = finishing::finished_rows(state, component, out_y, out_cb, out_cr, marks);
+    print_number(part.len());
+    print_sum(sum_of_samples(1, part));
+    let after = o.state;
+    after
+}
+
 fn rows<'a>(
     state: State,
+    lent: Lent,
     head: &[u8; 8],
     out_y: &'a [u16],
     out_cb: &'a [u16],
@@ -458,14 +502,18 @@ fn rows<'a>(
     marks: &[u8],
 ) -> State {
     io::write_all(1, b"n");
-    let o = finishing::finished_count(state, head[1], out_y, out_cb, out_cr, marks);
-    let a = o.answer;
-    print_rows(a);
-    let part = finishing::finished_rows(state, head[1], out_y, out_cb, out_cr, marks);
-    print_number(part.len());
-    print_sum(sum_of_samples(1, part));
-    let after = o.state;
-    after
+    let ny = at_most(lent.out_y, out_y.len());
+    let ncb = at_most(lent.out_cb, out_cb.len());
+    let ncr = at_most(lent.out_cr, out_cr.len());
+    let n = at_most(lent.marks, marks.len());
+    rows_of(
+        state,
+        head[1],
+        &out_y[..ny],
+        &out_cb[..ncb],
+        &out_cr[..ncr],
+        &marks[..n],
+    )
 }
 
 // ---- what is kept
@@ -535,6 +583,10 @@ fn fill_bytes(seed: u32, bytes: &mut [u8]) -> u32 {
     x
 }
 
+fn fill_planes(seed: u32, y: &mut [u16], cb: &mut [u16], cr: &mut [u16]) -> u32 {
+    fill_samples(fill_samples(fill_samples(seed, y), cb), cr)
+}
+
 fn fill(
     seed: u32,
     y: &mut [u16],
@@ -546,14 +598,17 @@ fn fill(
     marks: &mut [u8],
     table: &mut [u8],
 ) {
-    let mut x = fill_samples(seed, y);
-    x = fill_samples(x, cb);
-    x = fill_samples(x, cr);
-    x = fill_samples(x, out_y);
-    x = fill_samples(x, out_cb);
-    x = fill_samples(x, out_cr);
-    x = fill_bytes(x, marks);
-    fill_bytes(x, table);
+    let x = fill_planes(seed, y, cb, cr);
+    let z = fill_planes(x, out_y, out_cb, out_cr);
+    fill_bytes(fill_bytes(z, marks), table);
+}
+
+fn poke_plane(plane: u8, place: usize, sample: u16, y: &mut [u16], cb: &mut [u16], cr: &mut [u16]) {
+    match plane {
+        0 => put_sample(y, place, sample),
+        1 => put_sample(cb, place, sample),
+        _ => put_sample(cr, place, sample),
+    }
 }
 
 fn poke(
@@ -571,12 +626,8 @@ fn poke(
     let place = length_of(head[2], head[3]);
     let n = n_of(head);
     match buffer {
-        0 => put_sample(y, place, sample_of(n)),
-        1 => put_sample(cb, place, sample_of(n)),
-        2 => put_sample(cr, place, sample_of(n)),
-        3 => put_sample(out_y, place, sample_of(n)),
-        4 => put_sample(out_cb, place, sample_of(n)),
-        5 => put_sample(out_cr, place, sample_of(n)),
+        0..=2 => poke_plane(buffer, place, sample_of(n), y, cb, cr),
+        3..=5 => poke_plane(buffer - 3, place, sample_of(n), out_y, out_cb, out_cr),
         6 => put_byte(marks, place, byte_of(n)),
         _ => put_byte(table, place, byte_of(n)),
     }
@@ -622,7 +673,7 @@ fn change(
     }
 }
 
-// A call, with the leading parts of the buffers.
+// A command that is a call. Each is lent the leading parts of its buffers.
 fn call(
     head: &[u8; 8],
     k: Kept,
@@ -637,47 +688,26 @@ fn call(
 ) -> State {
     let s = k.state;
     let lent = k.lent;
-    let ny = at_most(lent.y, y.len());
-    let ncb = at_most(lent.cb, cb.len());
-    let ncr = at_most(lent.cr, cr.len());
-    let my = at_most(lent.out_y, out_y.len());
-    let mcb = at_most(lent.out_cb, out_cb.len());
-    let mcr = at_most(lent.out_cr, out_cr.len());
-    let nm = at_most(lent.marks, marks.len());
-    let nt = at_most(lent.table, table.len());
     let command = head[0];
     match command {
-        4 => open(s, &mut marks[..nm]),
-        5 => read(s, head, &mut table[..nt]),
-        6 => write(s, head, &mut table[..nt]),
-        7 => deliver(
-            s,
-            head,
-            &mut y[..ny],
-            &mut cb[..ncb],
-            &mut cr[..ncr],
-            &mut marks[..nm],
-        ),
+        4 => open(s, lent, marks),
+        5 => read(s, lent, head, table),
+        6 => write(s, lent, head, table),
+        7 => deliver(s, lent, head, y, cb, cr, marks),
         8 => filter(
             s,
+            lent,
             head,
-            &y[..ny],
-            &cb[..ncb],
-            &cr[..ncr],
-            &mut out_y[..my],
-            &mut out_cb[..mcb],
-            &mut out_cr[..mcr],
-            &mut marks[..nm],
-            &table[..nt],
+            y,
+            cb,
+            cr,
+            out_y,
+            out_cb,
+            out_cr,
+            marks,
+            table,
         ),
-        _ => rows(
-            s,
-            head,
-            &out_y[..my],
-            &out_cb[..mcb],
-            &out_cr[..mcr],
-            &marks[..nm],
-        ),
+        _ => rows(s, lent, head, out_y, out_cb, out_cr, marks),
     }
 }
 

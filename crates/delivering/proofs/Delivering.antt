@@ -1,17 +1,15 @@
--- What an accepted delivery may assume: every reason that does not hold, said as what holds. And what it leaves of the three planes.
+-- What an accepted delivery may assume: every reason that does not hold, said as what holds.
 use mathlib.Core.List.{List}
 use mathlib.Core.Logic.{inl, inr, ⊎-elim}
-use mathlib.Core.Path.{_≡_, refl, sym, _∙_, subst}
+use mathlib.Core.Path.{_≡_, refl}
 use Prim.Native.Nat.{ℕ, zero, suc, _≤_, _<_}
 use native.Mathlib.Decide.{ℕ-discrete, decLt}
 use native.Mathlib.Omega.{arith}
 use lib.ListN.{length}
-use Rattle.standard.specs.declared.Picture.{Picture}
 use Rattle.standard.specs.declared.State.{State}
-use Rattle.standard.specs.Picture.{Rules, components, planeWidth, planeHeight, ctuCount, rectangle}
+use Rattle.standard.specs.Picture.{Rules, components, ctuCount, rectangle}
 use Rattle.standard.specs.Refusals.{Clear}
-use Rattle.standard.specs.Reasons.{Planes, planeOf, PlanesFit, MarksFit, area, DeliveredBefore, deliverReasons}
-use Rattle.standard.specs.Calls.{Written, BlockWritten}
+use Rattle.standard.specs.Reasons.{Planes, PlanesFit, MarksFit, area, DeliveredBefore, deliverReasons}
 use Rattle.standard.proofs.Judging.{rules?}
 
 -- ---- accepted
@@ -54,44 +52,3 @@ one-or-two (suc (suc (suc m))) l n = absurd (omega arith)
 
 pub not-delivered : {m : ℕ} → m ≡ 0 → ¬ DeliveredBefore m
 not-delivered e = ⊎-elim (λ f. omega arith) (λ f. omega arith)
-
--- ---- one plane written
-
--- the planes with another in the place of plane i
-abbrev pub put : Planes → ℕ → List ℕ → Planes
-put l zero a = record { y = a; cb = l .cb; cr = l .cr }
-put l (suc zero) a = record { y = l .y; cb = a; cr = l .cr }
-put l (suc (suc i)) a = record { y = l .y; cb = l .cb; cr = a }
-
-put-own : (l : Planes) (i : ℕ) (a : List ℕ) → i < 3 → planeOf (put l i a) i ≡ a
-put-own l zero a h = refl
-put-own l (suc zero) a h = refl
-put-own l (suc (suc zero)) a h = refl
-put-own l (suc (suc (suc i))) a h = absurd (omega arith)
-
-put-other : (l : Planes) (i j : ℕ) (a : List ℕ) → i < 3 → ¬ (j ≡ i) → planeOf (put l i a) j ≡ planeOf l j
-put-other l zero zero a h n = absurd (n refl)
-put-other l zero (suc zero) a h n = refl
-put-other l zero (suc (suc zero)) a h n = refl
-put-other l (suc zero) zero a h n = refl
-put-other l (suc zero) (suc zero) a h n = absurd (n refl)
-put-other l (suc zero) (suc (suc zero)) a h n = refl
-put-other l (suc (suc i)) zero a h n = refl
-put-other l (suc (suc i)) (suc zero) a h n = refl
-put-other l (suc (suc zero)) (suc (suc zero)) a h n = absurd (n refl)
-put-other l (suc (suc (suc i))) (suc (suc zero)) a h n = absurd (omega arith)
-put-other l i (suc (suc (suc j))) a h n = refl
-
--- plane j is component i's
-pub block-written : {p : Picture} {i k : ℕ} {f : ℕ → ℕ → ℕ} {a : List ℕ} (l : Planes) (j : ℕ) → i ≡ j → j < 3
-    → Written (planeWidth p i) (planeHeight p i) (rectangle p i k) f (planeOf l j) a → BlockWritten p i k f l (put l j a)
-block-written {p} {i} {k} {f} {a} l j e h w = record { own = own; others = λ n d. put-other l j n a h (λ q. d (q ∙ sym e)) }
-  where
-    As : List ℕ → List ℕ → Type 0
-    As before after = Written (planeWidth p i) (planeHeight p i) (rectangle p i k) f before after
-
-    at-j : As (planeOf l j) (planeOf (put l j a) j)
-    at-j = subst (As (planeOf l j)) (sym (put-own l j a h)) w
-
-    own : As (planeOf l i) (planeOf (put l j a) i)
-    own = subst (λ (n : ℕ). As (planeOf l n) (planeOf (put l j a) n)) (sym e) at-j

@@ -25,7 +25,7 @@ use Rattle.standard.proofs.Grid.{ends, grown-holds}
 use Rattle.samples.specs.Blocks.{Legal, Ready}
 use Rattle.sets.specs.Entries.{Holds}
 use Rattle.sets.proofs.Finding.{found-stored}
-use Rattle.filtering.proofs.Planes.{put, block-written}
+use Rattle.standard.proofs.Three.{put, block-written}
 use Rattle.filtering.specs.Filtering.{Named, Chosen, Deep}
 
 -- ---- called as document 01 says

@@ -7,7 +7,6 @@ use Prim.Native.Nat.{ℕ, zero, suc, _+_, _*_, _≤_, _<_, min}
 use native.Mathlib.Nat.{min-le-right}
 use native.Mathlib.Decide.{ℕ-discrete}
 use native.Mathlib.Omega.{arith}
-use borrow.Author.Tests.{lt-ltb}
 use lib.ListN.{length, getD, take}
 use Rattle.standard.specs.declared.Picture.{Picture}
 use Rattle.standard.specs.declared.State.{State}
@@ -19,7 +18,6 @@ use Rattle.standard.specs.Contracts.{PartEnsures}
 use Rattle.standard.proofs.Answers.{tell-same}
 use Rattle.standard.proofs.Numbers.{first-not-clear}
 use Rattle.standard.proofs.Judging.{rules?}
-use Rattle.geometry.proofs.Counts.{components-most}
 use Rattle.geometry.proofs.Marks.{mark-from, marks-le}
 use Rattle.finishing.specs.Marks.{SomeAboveTwo, RowsFiltered}
 use Rattle.finishing.proofs.Rows.{one-number}
@@ -85,21 +83,6 @@ accepted s i filtered marks c = record {
   marked = equal _ _ (λ t. t .1) (c .1 .0);
   there = let n = c .1 .1 .1 .0 in omega arith;
 }
-
--- ---- the plane of a component
-
-module _ {p : Picture} {filtered : Planes} (f : PlanesFit p filtered) where
-  samples-are : {i : ℕ} → i < components p → samplesOf p i ≡ planeWidth p i * planeHeight p i
-  samples-are l = rw (lt-ltb _ _ l)
-
-  pub plane-long : (i : ℕ) → i < components p → length (planeOf filtered i) ≡ planeWidth p i * planeHeight p i
-  plane-long zero l = f .y ∙ samples-are l
-  plane-long (suc zero) l = f .cb ∙ samples-are l
-  plane-long (suc (suc zero)) l = f .cr ∙ samples-are l
-  plane-long (suc (suc (suc i))) l = absurd (omega (arith, components-most p))
-
-pub last : (p : Picture) {i : ℕ} → ¬ (i ≡ 0) → ¬ (i ≡ 1) → i < components p → i ≡ 2
-last p a b l = omega (arith, components-most p)
 
 -- ---- the part
 

@@ -1,10 +1,9 @@
 -- Counts with their bounds, quotients, and powers of two by a shift.
-use mathlib.Core.Bool.{Bool, true, false, cond}
 use mathlib.Core.Path.{_≡_, sym, ap, _∙_}
 use Prim.Native.Nat.{ℕ, _*_, _/_, _%_, _^_, _≤_, _<_}
 use native.Mathlib.Nat.{one-mul, mod-eq-of-lt, lt-of-le-of-lt}
 use native.Mathlib.Omega.{arith}
-use lib.Dec.{eqb, lit<}
+use lib.Dec.{lit<}
 use lib.Pow.{pow-mono}
 use Rattle.standard.specs.declared.Picture.{Picture}
 use Rattle.standard.specs.Picture.{components}
@@ -23,10 +22,3 @@ over n e f = e ∙ ap (λ (m : ℕ). n / m) f
 -- 1 shifted by d in 32 bits
 pub shifted : (d : ℕ) → d ≤ 16 → (1 * 2 ^ d) % 4294967296 ≡ 2 ^ d
 shifted d h = rw one-mul (mod-eq-of-lt (lt-of-le-of-lt (pow-mono h) (lit< tt)))
-
-pub components-most : (p : Picture) → components p ≤ 3
-components-most p = of (eqb (p .format) 0)
-  where
-    of : (t : Bool) → cond t 1 3 ≤ 3
-    of true = omega arith
-    of false = omega arith

@@ -16,7 +16,7 @@ use Rattle.standard.specs.Calls.{Written, BlockWritten}
 use Rattle.standard.proofs.Judging.{inside?}
 use Rattle.standard.proofs.Rasters.{length-planeBy, at-planeBy, written-unique}
 use Rattle.promises.specs.Ours.{choose, painted, withPlane, paintedIn}
-use Rattle.promises.proofs.Written.{components-most, plane-length}
+use Rattle.standard.proofs.Three.{components-most, plane-long}
 
 -- ---- a choice
 
@@ -37,7 +37,7 @@ plane-not-short {p = p} {planes = planes} fit n i h = go (ℕ-discrete (length (
   where
     go : Dec (length (planeOf planes i) ≡ planeWidth p i * planeHeight p i) → length (planeOf planes i) ≡ planeWidth p i * planeHeight p i
     go (yes e) = e
-    go (no m) = absurd (n (λ a. m (plane-length (fit a) h)))
+    go (no m) = absurd (n (λ a. m (plane-long i (fit a) h)))
 
 pub component-there : (p : Picture) (i : ℕ) {B : Type 0} → ¬ ((components p ≤ i) ⊎ B) → i < components p
 component-there p i n = let m : ¬ (components p ≤ i) = λ h. n (inl h) in omega arith

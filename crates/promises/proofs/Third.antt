@@ -17,7 +17,7 @@ use Rattle.promises.specs.World.{World, pictureOf, Call, Open, Filter, A
 use Rattle.promises.specs.Contract.{opened, Contract}
 use Rattle.promises.specs.Demands.{Lengths, Own, Filters, Delivers, setsIn, Life, after, Done, final, Demand3}
 use Rattle.promises.proofs.Turns.{turn, effect}
-use Rattle.promises.proofs.Written.{plane-length}
+use Rattle.standard.proofs.Three.{plane-long}
 use Rattle.promises.proofs.Stored.{SetsIn, none-in}
 use Rattle.promises.proofs.Blocks.{Blocks}
 use Rattle.promises.proofs.Invariant.{mark, Holds, Moves}
@@ -123,7 +123,7 @@ module _ (stage : Stage) (meets : (c : Call) (w : World) → Contract c w (stage
   in-the-end : (i : ℕ) → i < components (pictureOf w) → ((k : ℕ) → k < ctuCount (pictureOf w) → Done stage w cs (Filters i k))
       → planeOf (after stage w cs .filtered) i ≡ filteredPlane (pictureOf w) i (own .sets) (own .planes i)
   in-the-end i il all =
-      is-filtered (pictureOf w) i (own .sets) (own .planes i) (plane-length (told .blocks .filtered-fits) il)
+      is-filtered (pictureOf w) i (own .sets) (own .planes i) (plane-long i (told .blocks .filtered-fits) il)
       (λ x y xw yh. its-final i (ctbAt (pictureOf w) i x y) x y il (ctb-inside (told .rules) i xw yh refl) (all _ (ctb-lt (told .rules) i xw yh)))
 
   at-first-ask : setsIn stage cs (stage Open w .world) ≡ ctuCount (pictureOf w)

@@ -1,13 +1,10 @@
 -- One block of one component: where its mark is set or its samples are written, all is as set or written there, and as before elsewhere.
 use mathlib.Core.Path.{_≡_, sym, ap, _∙_, subst}
-use mathlib.Core.Bool.{Bool, true, false, cond}
 use mathlib.Core.List.{List}
 use Prim.Native.Nat.{ℕ, zero, suc, _*_, _≤_, _<_}
 use native.Mathlib.Nat.{mul-comm}
 use native.Mathlib.Decide.{ℕ-discrete}
 use native.Mathlib.Omega.{arith}
-use borrow.Author.Tests.{lt-ltb}
-use lib.Dec.{eqb}
 use lib.ListN.{length, set}
 use lib.Seq.{getD-set-same, getD-set-other}
 use Rattle.standard.specs.declared.Picture.{Picture}
@@ -77,22 +74,3 @@ module _ {p : Picture} (rules : Rules p) {i k : ℕ} {f : ℕ → ℕ → ℕ} {
 
   pub written-fits : PlanesFit p before → PlanesFit p after
   written-fits fits = record { y = same-length 0 ∙ fits .y; cb = same-length 1 ∙ fits .cb; cr = same-length 2 ∙ fits .cr }
-
--- ---- a plane's length
-
-pub components-most : (p : Picture) → components p ≤ 3
-components-most p = go (eqb (p .format) 0)
-  where
-    go : (b : Bool) → cond b 1 3 ≤ 3
-    go true = omega arith
-    go false = omega arith
-
-pub plane-length : {p : Picture} {planes : Planes} → PlanesFit p planes → {i : ℕ} → i < components p
-    → length (planeOf planes i) ≡ planeWidth p i * planeHeight p i
-plane-length {p} {planes} fits {i} il = by i il ∙ ap (λ (b : Bool). cond b (planeWidth p i * planeHeight p i) 0) (lt-ltb i (components p) il)
-  where
-    by : (j : ℕ) → j < components p → length (planeOf planes j) ≡ samplesOf p j
-    by zero l = fits .y
-    by (suc zero) l = fits .cb
-    by (suc (suc zero)) l = fits .cr
-    by (suc (suc (suc n))) l = absurd (omega (arith, components-most p))

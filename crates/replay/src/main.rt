@@ -34,16 +34,13 @@
 // not.
 use standard::Answer;
 use standard::CtuSet;
-use standard::Offsets;
 use standard::Picture;
 use standard::ReadAnswer;
 use standard::Refusal;
 use standard::RowsAnswer;
 use standard::State;
 use standard::WriteAnswer;
-ghost use mathlib.Core.Path.{_≡_};
 ghost use Prim.Native.Nat.{_≤_};
-ghost use Rattle.standard.specs.Refusals.{numberOf};
 
 // How much of each buffer is lent.
 struct Lent {
@@ -176,31 +173,14 @@ fn print_set(q: CtuSet) {
     print_bytes(&entry);
 }
 
-fn number(r: Refusal) -> usize
-    ensures { λ n. ⌜ n ≡ numberOf r ⌝ }
-{
-    match r {
-        Refusal::Description => 1,
-        Refusal::Length => 2,
-        Refusal::NoSuchBlock => 3,
-        Refusal::CountTooLarge => 4,
-        Refusal::TooEarly => 5,
-        Refusal::BinsRemain => 6,
-        Refusal::AllRead => 7,
-        Refusal::SampleTooLarge => 8,
-        Refusal::DeliveredBefore => 9,
-        Refusal::NotReady => 10,
-        Refusal::FilteredBefore => 11,
-        Refusal::NoBins => 12,
-        Refusal::NoRoom => 13,
-        Refusal::Stored => 14,
-    }
+fn print_refusal(r: Refusal) {
+    print_number(r.number() as usize);
 }
 
 fn print_answer(a: Answer) {
     match a {
         Answer::Done => print_number(0),
-        Answer::Refused(r) => print_number(number(r)),
+        Answer::Refused(r) => print_refusal(r),
     }
 }
 
@@ -210,7 +190,7 @@ fn print_read(a: ReadAnswer) {
             print_number(0);
             print_set(q);
         }
-        ReadAnswer::Refused(r) => print_number(number(r)),
+        ReadAnswer::Refused(r) => print_refusal(r),
     }
 }
 
@@ -220,7 +200,7 @@ fn print_written(a: WriteAnswer) {
             print_number(0);
             print_number(n);
         }
-        WriteAnswer::Refused(r) => print_number(number(r)),
+        WriteAnswer::Refused(r) => print_refusal(r),
     }
 }
 
@@ -230,7 +210,7 @@ fn print_rows(a: RowsAnswer) {
             print_number(0);
             print_number(n);
         }
-        RowsAnswer::Refused(r) => print_number(number(r)),
+        RowsAnswer::Refused(r) => print_refusal(r),
     }
 }
 
@@ -272,42 +252,6 @@ fn read(state: State, lent: Lent, head: &[u8; 8], table: &mut [u8]) -> State {
     read_into(state, head, &mut bytes, &mut table[..n])
 }
 
-fn offset_of(b: u8) -> i8 {
-    (b as i32 - 128) as i8
-}
-
-fn offsets_of(kind: u8, place: u8, b1: u8, b2: u8, b3: u8, b4: u8) -> Offsets {
-    let o1 = offset_of(b1);
-    let o2 = offset_of(b2);
-    let o3 = offset_of(b3);
-    let o4 = offset_of(b4);
-    match kind {
-        0 => Offsets::Off,
-        1 => Offsets::Band {
-            position: place,
-            o1,
-            o2,
-            o3,
-            o4,
-        },
-        _ => Offsets::Edge {
-            class: place,
-            o1,
-            o2,
-            o3,
-            o4,
-        },
-    }
-}
-
-// Any entry's set, within the rules or not.
-fn set_of(e: &[u8; 18]) -> CtuSet {
-    let luma = offsets_of(e[0], e[1], e[2], e[3], e[4], e[5]);
-    let cb = offsets_of(e[6], e[7], e[8], e[9], e[10], e[11]);
-    let cr = offsets_of(e[12], e[13], e[14], e[15], e[16], e[17]);
-    CtuSet { luma, cb, cr }
-}
-
 fn write_into(state: State, head: &[u8; 8], q: CtuSet, room: &mut [u8], table: &mut [u8]) -> State {
     let lent = at_most(records::wide(head[1]), room.len());
     let o = writing::write(state, q, &mut room[..lent], table);
@@ -324,7 +268,13 @@ fn write(state: State, lent: Lent, head: &[u8; 8], table: &mut [u8]) -> State {
     let mut entry = [0u8; 18];
     io::read_full(0, &mut entry);
     let mut room = [head[2]; 64];
-    write_into(state, head, set_of(&entry), &mut room, &mut table[..n])
+    write_into(
+        state,
+        head,
+        sets::set_said(&entry),
+        &mut room,
+        &mut table[..n],
+    )
 }
 
 fn made(samples: &mut [u16], base: u16, spread: u16, seed: u32) {

@@ -1,4 +1,4 @@
--- The sign of a difference of two naturals, the sum of two signs at 32 bits, and the category at such a sum:
+-- The sign of a difference of two naturals, the sum of two signs at 16 bits, and the category at such a sum:
 -- a signed number is known by the bits that a `match` tests.
 use mathlib.Core.Path.{_≡_, refl, sym, ap, ap₂, _∙_}
 use Prim.Native.Nat.{ℕ, zero, suc, _+_, _-_, _≤_, _<_}
@@ -7,7 +7,7 @@ use native.Mathlib.Omega.{arith}
 use borrow.Author.Tests.{lt-ltb, le-ltb}
 use lib.Dec.{lit<}
 use lib.IntN.{ℤ, pos, negsuc, _+ℤ_, _-ℤ_}
-use mir.Syntax.{w32}
+use mir.Syntax.{w16}
 use mir.Val.{SFits, ofZ, toZ}
 use mir.ValLaws.{toZ-ofZ}
 use lib.ListN.{getD}
@@ -35,9 +35,9 @@ sign-gt (suc s) (suc a) h =
 
 -- the number that the machine reads back of a signed number's bits
 abbrev pub back : ℤ → ℤ
-back z = toZ w32 (ofZ w32 z)
+back z = toZ w16 (ofZ w16 z)
 
-pub sum-fits : (x y : ℤ) → SFits w32 (back (sign x) +ℤ back (sign y))
+pub sum-fits : (x y : ℤ) → SFits w16 (back (sign x) +ℤ back (sign y))
 unfolding sign
 sum-fits (pos zero) (pos zero) = record { sfits = lit< tt }
 sum-fits (pos zero) (pos (suc n)) = record { sfits = lit< tt }
@@ -66,10 +66,10 @@ pub sum-of : (x y : ℤ) {S T : ℤ} → S ≡ sign x → T ≡ sign y → pos 2
 sum-of x y p q = ap₂ (λ (s t : ℤ). pos 2 +ℤ back (back s +ℤ back t)) p q ∙ sum-is x y
 
 -- the category of the sum whose bits are n
-pub key : (s : ℤ) (n : ℕ) → SFits w32 s → ofZ w32 s ≡ n → category (toZ w32 n) ≡ edgeIdx (pos 2 +ℤ s)
-key s n f e = ap (λ (m : ℕ). category (toZ w32 m)) (sym e) ∙ ap category (toZ-ofZ w32 s f) ∙ category-is-edgeIdx s
+pub key : (s : ℤ) (n : ℕ) → SFits w16 s → ofZ w16 s ≡ n → category (toZ w16 n) ≡ edgeIdx (pos 2 +ℤ s)
+key s n f e = ap (λ (m : ℕ). category (toZ w16 m)) (sym e) ∙ ap category (toZ-ofZ w16 s f) ∙ category-is-edgeIdx s
 
-other : (s : ℤ) → (ofZ w32 s ≡ 4294967294 → ⊥) → (ofZ w32 s ≡ 4294967295 → ⊥) → (ofZ w32 s ≡ 1 → ⊥) → (ofZ w32 s ≡ 2 → ⊥) → 0 ≡ category s
+other : (s : ℤ) → (ofZ w16 s ≡ 65534 → ⊥) → (ofZ w16 s ≡ 65535 → ⊥) → (ofZ w16 s ≡ 1 → ⊥) → (ofZ w16 s ≡ 2 → ⊥) → 0 ≡ category s
 other (pos zero) a b c d = refl
 other (pos (suc zero)) a b c d = absurd (c refl)
 other (pos (suc (suc zero))) a b c d = absurd (d refl)
@@ -78,7 +78,7 @@ other (negsuc zero) a b c d = absurd (b refl)
 other (negsuc (suc zero)) a b c d = absurd (a refl)
 other (negsuc (suc (suc n))) a b c d = refl
 
-pub rest : (s : ℤ) → (ofZ w32 s ≡ 4294967294 → ⊥) → (ofZ w32 s ≡ 4294967295 → ⊥) → (ofZ w32 s ≡ 1 → ⊥) → (ofZ w32 s ≡ 2 → ⊥) → 0 ≡ edgeIdx (pos 2 +ℤ s)
+pub rest : (s : ℤ) → (ofZ w16 s ≡ 65534 → ⊥) → (ofZ w16 s ≡ 65535 → ⊥) → (ofZ w16 s ≡ 1 → ⊥) → (ofZ w16 s ≡ 2 → ⊥) → 0 ≡ edgeIdx (pos 2 +ℤ s)
 rest s a b c d = other s a b c d ∙ category-is-edgeIdx s
 
 -- the match agrees with the table of categories

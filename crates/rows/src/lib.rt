@@ -168,7 +168,7 @@ fn move_sample(m: Moves, n: u16, s: u16) -> u16
 }
 
 // The sign of a sample minus its neighbour.
-fn sign_of(s: u16, a: u16) -> i32
+fn sign_of(s: u16, a: u16) -> i16
     ensures { λ r. ⌜ r ≡ sign (pos s -ℤ pos a) ⌝ }
 {
     if s < a {
@@ -181,7 +181,7 @@ fn sign_of(s: u16, a: u16) -> i32
 }
 
 // The category of a sum of two signs.
-fn category(s: i32) -> u16
+fn category(s: i16) -> u16
     ensures { λ r. ⌜ r ≡ edgeIdx (pos 2 +ℤ s) ⌝ }
 {
     match s {

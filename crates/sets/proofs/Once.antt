@@ -2,6 +2,7 @@
 use mathlib.Core.Path.{_≡_, refl, sym, ap, _∙_}
 use mathlib.Core.Bool.{Bool}
 use mathlib.Core.List.{List}
+use mathlib.Core.Logic.{inl, inr}
 use Prim.Native.Nat.{ℕ}
 use Rattle.standard.specs.declared.Offsets.{Offsets}
 use Rattle.standard.specs.declared.CtuSet.{CtuSet}
@@ -12,7 +13,7 @@ use Rattle.standard.specs.Refusals.{Tells}
 use Rattle.standard.proofs.Answers.{one-answer}
 use Rattle.sets.specs.declared.Found.{Found}
 use Rattle.sets.specs.declared.Found.the-variants.{Set, Bad}
-use Rattle.sets.specs.Entries.{Finds}
+use Rattle.sets.specs.Entries.{Finds, Stands, StandsFor}
 use Rattle.sets.proofs.Finding.{sound-of, found-stored}
 
 pub get-set-once : (s : Switches) (table : List ℕ) (k : ℕ) (r r′ : Found) → Finds s table k r → Finds s table k r′ → r ≡ r′
@@ -32,3 +33,17 @@ is-valid-once p q = one-answer (Valid (switchesOf p) q)
 
 pub put-set-once : (table : List ℕ) (k : ℕ) (q : CtuSet) (exit exit′ : List ℕ) → exit ≡ entered table k q → exit′ ≡ entered table k q → exit ≡ exit′
 put-set-once table k q exit exit′ e e′ = e ∙ sym e′
+
+offsets-said-once : {six : List ℕ} {o o′ : Offsets} → Stands six o → Stands six o′ → o ≡ o′
+offsets-said-once (inl s) (inl s′) = s .1 ∙ sym (s′ .1)
+offsets-said-once (inl s) (inr s′) = absurd (s′ .0 (s .0))
+offsets-said-once (inr s) (inl s′) = absurd (s .0 (s′ .0))
+offsets-said-once (inr s) (inr s′) = s .1 ∙ sym (s′ .1)
+
+-- 18 bytes stand for one set
+pub stands-once : {bytes : List ℕ} {q q′ : CtuSet} → StandsFor bytes q → StandsFor bytes q′ → q ≡ q′
+stands-once s s′ = λ i. record {
+  luma = offsets-said-once (s .luma) (s′ .luma) i;
+  cb = offsets-said-once (s .cb) (s′ .cb) i;
+  cr = offsets-said-once (s .cr) (s′ .cr) i;
+}

@@ -1,10 +1,12 @@
 -- One component's six bytes of an entry, bytes put into a table, and what is found there.
 use mathlib.Core.Path.{_≡_}
 use mathlib.Core.List.{List, [], _∷_, _++_}
+use mathlib.Core.Logic.{_⊎_}
 use Prim.Native.Nat.{ℕ, _+_}
+use lib.IntN.{pos}
 use lib.ListN.{length, take, drop}
 use Rattle.standard.specs.declared.Offsets.{Offsets}
-use Rattle.standard.specs.declared.Offsets.the-variants.{Off}
+use Rattle.standard.specs.declared.Offsets.the-variants.{Off, Band}
 use Rattle.standard.specs.declared.CtuSet.{CtuSet}
 use Rattle.standard.specs.Sets.{Switches, most, Fits, Shares, Ruled, Valid}
 use Rattle.standard.specs.Table.{encodeOffsets, decodeOffsets, encode, entry, Sound}
@@ -47,3 +49,22 @@ pub record Holds (s : Switches) (table : List ℕ) (k : ℕ) (q : CtuSet) : Type
 abbrev pub Finds : Switches → List ℕ → ℕ → Found → Type 0
 Finds s table k (Set q) = Holds s table k q
 Finds s table k Bad = ¬ Sound s table k
+
+-- ---- six bytes, and 18, outside a table
+
+-- a band at a position that no set within the rules has: what bytes that encode nothing stand for
+abbrev pub Unsaid : Offsets
+Unsaid = Band 255 (pos 0) (pos 0) (pos 0) (pos 0)
+
+-- they encode a component: the one that they say
+abbrev pub Encodes : List ℕ → Type 0
+Encodes six = six ≡ encodeOffsets (decodeOffsets six)
+
+abbrev pub Stands : List ℕ → Offsets → Type 0
+Stands six o = (Encodes six × (o ≡ decodeOffsets six)) ⊎ ((¬ Encodes six) × (o ≡ Unsaid))
+
+-- the set of 18 bytes, component by component
+pub record StandsFor (bytes : List ℕ) (q : CtuSet) : Type 0 where
+  pub luma : Stands (take 6 bytes) (q .luma)
+  pub cb : Stands (take 6 (drop 6 bytes)) (q .cb)
+  pub cr : Stands (take 6 (drop 12 bytes)) (q .cr)

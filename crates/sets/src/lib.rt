@@ -13,7 +13,7 @@ ghost use Rattle.standard.specs.Picture.{depthOf};
 ghost use Rattle.standard.specs.Sets.{largest, most, switchesOf, Small, EdgeSigns, Fits, Shares, Valid};
 ghost use Rattle.standard.specs.Table.{entrySize, offsetByte, offsetOf, encodeOffsets, encode, entered};
 ghost use Rattle.standard.specs.Refusals.{Tells};
-ghost use Rattle.sets.specs.Entries.{listOf, says, setOf, Coded, LumaRuled, ChromaRuled, put, Finds};
+ghost use Rattle.sets.specs.Entries.{listOf, says, setOf, Coded, LumaRuled, ChromaRuled, put, Finds, Stands, StandsFor};
 
 // One component in an entry of the table: its type, its band position or class, and its offsets, each
 // plus 128.
@@ -435,4 +435,32 @@ pub fn get_set(p: Picture, table: &[u8], k: usize) -> Found
     let cb = offsets_of(b);
     let cr = offsets_of(r);
     Found::Set(CtuSet { luma, cb, cr })
+}
+
+// ---- said by 18 bytes alone
+
+// The component that six bytes encode, or where they encode none one that no set within the rules has.
+fn offsets_said(s: Six) -> Offsets
+    ensures { λ r. ⌜ Stands (listOf s) r ⌝ }
+{
+    if is_code(s) {
+        return offsets_of(s);
+    }
+    Offsets::Band {
+        position: 255,
+        o1: 0,
+        o2: 0,
+        o3: 0,
+        o4: 0,
+    }
+}
+
+// The set that the bytes of an entry encode, within the rules or not.
+pub fn set_said(e: &[u8; 18]) -> CtuSet
+    ensures { λ r. ⌜ StandsFor (now (e .entry)) r ⌝ }
+{
+    let luma = offsets_said(get_six(e, 0));
+    let cb = offsets_said(get_six(e, 6));
+    let cr = offsets_said(get_six(e, 12));
+    CtuSet { luma, cb, cr }
 }

@@ -2,6 +2,7 @@
 pub mod Divisors
 pub mod Grid
 pub mod Rasters
+pub mod Three
 pub mod Order
 pub mod Counting
 pub mod Seeing

@@ -3,6 +3,7 @@
 ghost use mathlib.Core.Path.{_≡_};
 ghost use Prim.Native.Nat.{_<_};
 ghost use Rattle.standard.specs.Calls.{openedState, stateAfter};
+ghost use Rattle.standard.specs.Refusals.{numberOf};
 
 // What a caller says of a picture. The fields hold any number, so that a description that breaks
 // a rule can be handed in, and is refused. `format` is chroma_format_idc.
@@ -87,6 +88,29 @@ pub enum Refusal {
     NoBins,
     NoRoom,
     Stored,
+}
+
+impl Refusal {
+    pub fn number(self) -> u32
+        ensures { λ n. ⌜ n ≡ numberOf self ⌝ }
+    {
+        match self {
+            Refusal::Description => 1,
+            Refusal::Length => 2,
+            Refusal::NoSuchBlock => 3,
+            Refusal::CountTooLarge => 4,
+            Refusal::TooEarly => 5,
+            Refusal::BinsRemain => 6,
+            Refusal::AllRead => 7,
+            Refusal::SampleTooLarge => 8,
+            Refusal::DeliveredBefore => 9,
+            Refusal::NotReady => 10,
+            Refusal::FilteredBefore => 11,
+            Refusal::NoBins => 12,
+            Refusal::NoRoom => 13,
+            Refusal::Stored => 14,
+        }
+    }
 }
 
 // Columns x0 up to and without x1, rows y0 up to and without y1.

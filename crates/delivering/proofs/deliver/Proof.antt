@@ -12,8 +12,8 @@ use Rattle.standard.specs.Reasons.{Planes, planeOf, deliverReasons}
 use Rattle.standard.specs.Calls.{marked}
 use Rattle.standard.specs.Contracts.{Judged}
 use Rattle.geometry.proofs.Marks.{mark-lt}
-use Rattle.delivering.proofs.Blocks.{plane-long, only-two}
-use Rattle.delivering.proofs.Delivering.{Accepted, accepted, block-written}
+use Rattle.standard.proofs.Three.{plane-long, only-two, block-written}
+use Rattle.delivering.proofs.Delivering.{Accepted, accepted}
 use borrow.Author.Needs.{needs}
 use Rattle.delivering.proofs.deliver.Statement.{statement}
 use Rattle.delivering.proofs.deliver.Tie as tie

@@ -16,7 +16,7 @@ use Rattle.filtering.specs.declared.Ready.{Ready}
 use Rattle.filtering.specs.declared.Ready.the-variants.{Go}
 use Rattle.filtering.specs.Filtering.{Readied, Deep}
 use Rattle.filtering.proofs.Judging.{clear-before}
-use Rattle.filtering.proofs.Planes.{plane-long, only-two}
+use Rattle.standard.proofs.Three.{plane-long, only-two}
 use Rattle.filtering.proofs.Filtering.{Called, called, not-above, block-filtered}
 use borrow.Author.Needs.{needs}
 use Rattle.filtering.proofs.filter.Statement.{statement}

@@ -7,7 +7,7 @@ use lib.ListN.{length}
 use Rattle.standard.specs.Picture.{Rules, planeWidth, planeHeight, ctuCount}
 use Rattle.standard.specs.Refusals.{Tells}
 use Rattle.standard.specs.Reasons.{Planes, planeOf, DeblockedSampleTooLarge}
-use Rattle.filtering.proofs.Planes.{plane-long, only-two}
+use Rattle.standard.proofs.Three.{plane-long, only-two}
 use Rattle.filtering.proofs.some_too_large.Statement.{statement}
 use Rattle.filtering.proofs.some_too_large.Tie as tie
 

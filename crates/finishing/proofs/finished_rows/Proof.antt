@@ -11,7 +11,8 @@ use Rattle.standard.specs.declared.RowsAnswer.the-variants as rows
 use Rattle.standard.specs.Reasons.{Planes, planeOf, rowsReasons}
 use Rattle.standard.specs.Calls.{FinishedRows}
 use Rattle.standard.specs.Contracts.{RowsDecides, PartEnsures}
-use Rattle.finishing.proofs.Finishing.{Accepted, accepted, plane-long, last, few, part, empty}
+use Rattle.standard.proofs.Three.{plane-long, only-two}
+use Rattle.finishing.proofs.Finishing.{Accepted, accepted, few, part, empty}
 use Rattle.finishing.proofs.finished_rows.Statement.{statement}
 use Rattle.finishing.proofs.finished_rows.Tie as tie
 
@@ -44,7 +45,7 @@ Plane c = let t = s (c .before .before) in planeOf (F t) (t .args .component)
 plane-is : (c : tie.After-plane-height) {l : List ℕ} → Plane c ≡ l → length l ≡ c .before .plane-width .result * c .plane-height .result
 plane-is c e =
     let p = c .before .before in
-    sym (ap length e) ∙ plane-long (ok p .planes) (s p .args .component) (ok p .there)
+    sym (ap length e) ∙ plane-long (s p .args .component) (ok p .planes) (ok p .there)
     ∙ sym (ap₂ (λ (a b : ℕ). a * b) (c .before .plane-width .ensures .is) (c .plane-height .ensures .is))
 
 first : (c : tie.At-match2-keys1) → Plane (c .before) ≡ now (s (c .before .before .before) .args .y)
@@ -56,7 +57,7 @@ second c = ap (planeOf (F (s (c .before .before .before)))) (c .match2 .keys2)
 third : (c : tie.At-match2-rest) → Plane (c .before) ≡ now (s (c .before .before .before) .args .cr)
 third c =
     let p = c .before .before .before in
-    ap (planeOf (F (s p))) (last (s p .args .state .picture) (c .match2 .rest .0 .1) (c .match2 .rest .1) (ok p .there))
+    ap (planeOf (F (s p))) (only-two (s p .args .state .picture) (ok p .there) (c .match2 .rest .0 .1) (c .match2 .rest .1))
 
 -- that many rows of it
 handed : (c : tie.After-plane-height) {plane l : List ℕ} → Plane c ≡ plane → l ≡ take (N (c .before .before) * c .before .plane-width .result) plane

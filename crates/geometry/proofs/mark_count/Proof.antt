@@ -3,7 +3,7 @@ use mathlib.Core.Path.{ap₂}
 use Prim.Native.Nat.{ℕ, _*_, _≤_}
 use native.Mathlib.Nat.{mul-le-mul}
 use native.Mathlib.Omega.{arith}
-use Rattle.geometry.proofs.Counts.{components-most}
+use Rattle.standard.proofs.Three.{components-most}
 use borrow.Author.Needs.{needs}
 use Rattle.geometry.proofs.mark_count.Statement.{statement}
 use Rattle.geometry.proofs.mark_count.Tie as tie

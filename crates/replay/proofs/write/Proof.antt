@@ -23,8 +23,8 @@ read-full-requires c κs = search needs
 element-copy-out-room : tie.Need-element-copy-out-room
 element-copy-out-room c = search needs
 
-set-of-requires : tie.Need-set-of-requires
-set-of-requires c κs = search needs
+set-said-requires : tie.Need-set-said-requires
+set-said-requires c κs = search needs
 
 slice-aggregate-write-into : tie.Need-slice-aggregate-write-into
 slice-aggregate-write-into c = search needs
@@ -54,7 +54,7 @@ write-spec =
     slice-aggregate-read-full
     read-full-requires
     element-copy-out-room
-    set-of-requires
+    set-said-requires
     slice-aggregate-write-into
     slice-relend-prefix-write-into
     slice-aggregate-write-into-2

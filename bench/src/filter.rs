@@ -1,0 +1,156 @@
+//! The filter call, scan and all, beside plain loops and memcpy.
+
+use crate::course::{Course, Filter};
+use crate::table::{Table, number, ratio};
+use crate::timing::{Patience, each, shortest};
+use crate::{Done, Mistake};
+use std::io::Write;
+use steamgusset::{CtuSet, Offsets, Picture};
+
+/// One set for a whole picture, and how many times memcpy's time the filter call may take with it.
+struct Kind {
+    name: &'static str,
+    offsets: Offsets,
+    memcpy: f64,
+    /// Whether plain C has to be slower; if not, the call may take a tenth more.
+    faster: bool,
+}
+
+/// Within the rules at every depth.
+const OFFSETS: [i8; 4] = [5, 2, -3, -7];
+
+const fn edge(name: &'static str, class: u8) -> Kind {
+    Kind { name, offsets: Offsets::Edge { class, offsets: OFFSETS }, memcpy: 10.0, faster: false }
+}
+
+const KINDS: [Kind; 6] = [
+    Kind { name: "off", offsets: Offsets::Off, memcpy: 2.5, faster: true },
+    Kind { name: "band", offsets: Offsets::Band { position: 9, offsets: OFFSETS }, memcpy: 5.0, faster: true },
+    edge("edge 0", 0),
+    edge("edge 1", 1),
+    edge("edge 2", 2),
+    edge("edge 3", 3),
+];
+
+/// Full HD, of luma alone or in 4:2:0.
+fn picture(ctb: u32, depth: u8, chroma: bool) -> Picture {
+    Picture { width: 1920, height: 1080, ctb, format: chroma.into(), depth, luma: true, chroma }
+}
+
+/// The set of a 4:2:0 picture's CTU if every kind takes its turn. No CTU has the set of its left or upper neighbour.
+pub fn mixed(column: usize, row: usize) -> CtuSet {
+    everywhere(true, KINDS[(column + 2 * row) % KINDS.len()].offsets)
+}
+
+/// The same offsets in every component there is.
+pub const fn everywhere(chroma: bool, luma: Offsets) -> CtuSet {
+    if chroma { CtuSet { luma, cb: luma, cr: luma } } else { CtuSet { luma, ..CtuSet::OFF } }
+}
+
+/// Every depth, for luma alone and for a whole picture, and how the figures stand against the targets.
+pub fn depths(patience: Patience, out: &mut dyn Write) -> Done {
+    writeln!(out, "Nanoseconds a sample. {EXPLAINED} {}\n", targets_are_for())?;
+    for (name, chroma) in [("Luma alone (monochrome)", false), ("A whole picture (4:2:0)", true)] {
+        let mut table = Table::new(["bits"].into_iter().chain(HEADING).chain(TARGETS));
+        for depth in [8, 10, 16] {
+            for kind in &KINDS {
+                let figures = Figures::of(patience, picture(64, depth, chroma), kind)?;
+                table.row([depth.to_string()].into_iter().chain(figures.cells(kind)).chain(figures.judged(kind)));
+            }
+        }
+        writeln!(out, "### {name}\n\n{table}")?;
+    }
+    Ok(())
+}
+
+/// Every CTB size.
+pub fn sizes(patience: Patience, out: &mut dyn Write) -> Done {
+    writeln!(out, "Nanoseconds a sample, luma alone (monochrome). {EXPLAINED}\n")?;
+    let mut table = Table::new(["block"].into_iter().chain(HEADING));
+    for ctb in [64, 32, 16] {
+        for kind in &KINDS {
+            let figures = Figures::of(patience, picture(ctb, 10, false), kind)?;
+            table.row([format!("{ctb}x{ctb}")].into_iter().chain(figures.cells(kind)));
+        }
+    }
+    writeln!(out, "{table}")?;
+    Ok(())
+}
+
+const EXPLAINED: &str = "Every block has the same set; samples are random. \"Checked C\" is plain C after a scan of the \
+                         block and the samples around it, which is part of every filter call of the stage. \"Rows\" is \
+                         memcpy of each block's rows, block after block: what the block order alone costs. \"Memcpy\" is \
+                         memcpy of the planes from end to end. The samples that stage, plain C and plain Rust leave were \
+                         compared: they are equal.";
+
+fn targets_are_for() -> String {
+    let here = std::env::consts::ARCH;
+    if here == "x86_64" {
+        return String::new();
+    }
+    format!("The targets are for x86-64; this machine is {here}, so \"met\" only says how the figures stand.")
+}
+
+const HEADING: [&str; 10] = [
+    "set",
+    "stage",
+    "plain C",
+    "checked C",
+    "plain Rust",
+    "rows",
+    "memcpy",
+    "stage / memcpy",
+    "stage / plain C",
+    "stage / checked C",
+];
+const TARGETS: [&str; 4] = ["of memcpy", "met", "of plain C", "met"];
+
+/// Nanoseconds a sample.
+struct Figures {
+    stage: f64,
+    plain_c: f64,
+    checked_c: f64,
+    plain_rust: f64,
+    rows: f64,
+    memcpy: f64,
+}
+
+impl Figures {
+    fn of(patience: Patience, picture: Picture, kind: &Kind) -> Result<Figures, Mistake> {
+        let mut course = Course::new(picture, |_, _| everywhere(picture.chroma, kind.offsets))?;
+        course.compare()?;
+        let contestants =
+            [Filter::Stage, Filter::PlainC, Filter::CheckedC, Filter::PlainRust, Filter::Rows, Filter::Memcpy];
+        let times = shortest(patience, contestants, |by| course.filter(by))?;
+        let [stage, plain_c, checked_c, plain_rust, rows, memcpy] = times.map(|time| each(time, course.samples()));
+        Ok(Figures { stage, plain_c, checked_c, plain_rust, rows, memcpy })
+    }
+
+    /// To two places, as it is shown and judged.
+    fn of_memcpy(&self) -> f64 {
+        to_places(self.stage / self.memcpy)
+    }
+
+    fn of_c(&self) -> f64 {
+        to_places(self.stage / self.plain_c)
+    }
+
+    fn cells(&self, kind: &Kind) -> [String; 10] {
+        let times = [self.stage, self.plain_c, self.checked_c, self.plain_rust, self.rows, self.memcpy];
+        let [stage, plain_c, checked_c, plain_rust, rows, memcpy] = times.map(number);
+        let [of_memcpy, of_c, of_checked] = [self.of_memcpy(), self.of_c(), self.stage / self.checked_c].map(ratio);
+        [kind.name.to_string(), stage, plain_c, checked_c, plain_rust, rows, memcpy, of_memcpy, of_c, of_checked]
+    }
+
+    fn judged(&self, kind: &Kind) -> [String; 4] {
+        let met = |met: bool| if met { "yes" } else { "no" }.to_string();
+        let (limit, within) =
+            if kind.faster { ("below 1.00", self.of_c() < 1.0) } else { ("at most 1.10", self.of_c() <= 1.1) };
+        let by_memcpy = format!("at most {:.2}", kind.memcpy);
+        [by_memcpy, met(self.of_memcpy() <= kind.memcpy), limit.to_string(), met(within)]
+    }
+}
+
+fn to_places(ratio: f64) -> f64 {
+    (ratio * 100.0).round() / 100.0
+}

@@ -1,0 +1,82 @@
+-- The numbers that cross: a state as eight, what a caller has to lend as fourteen, the place of a block as four.
+use mathlib.Core.Bool.{Bool, true, false, cond}
+use mathlib.Core.List.{List, [], _∷_}
+use Prim.Native.Nat.{ℕ, zero, suc, _*_, _≤_, min}
+use lib.Dec.{ltb}
+use lib.ListN.{getD}
+use Rattle.standard.specs.declared.Picture.{Picture}
+use Rattle.standard.specs.declared.State.{State}
+use Rattle.standard.specs.declared.Rectangle.{Rectangle}
+use Rattle.standard.specs.Picture.{components, planeWidth, planeHeight, samplesOf, columns, rows, ctuCount}
+use Rattle.standard.specs.Table.{entrySize}
+use Rattle.standard.specs.Reasons.{markCount}
+
+-- ---- a state
+
+-- width, height, CTB size, format, depth, luma switch, chroma switch, next CTU
+abbrev pub digit : Bool → ℕ
+digit false = 0
+digit true = 1
+
+abbrev pub isOn : ℕ → Bool
+isOn zero = false
+isOn (suc n) = true
+
+unfoldable pub numbersOf : State → List ℕ
+numbersOf s =
+    s .picture .width
+    ∷ s .picture .height
+    ∷ s .picture .ctb
+    ∷ s .picture .format
+    ∷ s .picture .depth
+    ∷ digit (s .picture .luma)
+    ∷ digit (s .picture .chroma)
+    ∷ s .next
+    ∷ []
+
+unfoldable pub stateOf : List ℕ → State
+stateOf a =
+    record { picture = record { width = getD a 0 0; height = getD a 1 0; ctb = getD a 2 0; format = getD a 3 0; depth = getD a 4 0; luma = isOn (getD a 5 0); chroma = isOn (getD a 6 0) }; next = getD a 7 0 }
+
+-- the fields of a state hold the numbers: format and depth are bytes, and a switch is 0 or 1
+pub record Held (a : List ℕ) : Type 0 where
+  pub format : getD a 3 0 ≤ 255
+  pub depth : getD a 4 0 ≤ 255
+  pub luma : getD a 5 0 ≤ 1
+  pub chroma : getD a 6 0 ≤ 1
+
+-- ---- a component
+
+abbrev pub inByte : ℕ → ℕ
+inByte i = min i 255
+
+-- ---- what a caller has to lend
+
+-- an absent component has a plane of no width and no height
+abbrev pub widthOf : Picture → ℕ → ℕ
+widthOf p i = cond (ltb i (components p)) (planeWidth p i) 0
+
+abbrev pub heightOf : Picture → ℕ → ℕ
+heightOf p i = cond (ltb i (components p)) (planeHeight p i) 0
+
+-- of each plane the width, the height and the number of samples; CTB columns and rows, CTUs; bytes of marks and of the table
+unfoldable pub sizesOf : Picture → List ℕ
+sizesOf p =
+    widthOf p 0
+    ∷ widthOf p 1
+    ∷ widthOf p 2
+    ∷ heightOf p 0
+    ∷ heightOf p 1
+    ∷ heightOf p 2
+    ∷ samplesOf p 0
+    ∷ samplesOf p 1
+    ∷ samplesOf p 2
+    ∷ columns p
+    ∷ rows p
+    ∷ ctuCount p
+    ∷ markCount p
+    ∷ (entrySize * ctuCount p)
+    ∷ []
+
+abbrev pub placeOf : Rectangle → List ℕ
+placeOf r = r .x0 ∷ r .x1 ∷ r .y0 ∷ r .y1 ∷ []

@@ -1,0 +1,344 @@
+// The exported interface: a function for each call, on plain memory, for C and Rust to link. Its other half is
+// include/steamgusset.h.
+//
+// The state crosses as eight numbers: width, height, CTB size, format, depth, luma switch, chroma switch, next CTU. A
+// set crosses as its 18 bytes in the table. Each function answers 0, or the number of its refusal; what else it has to
+// say it leaves in lent memory. A refusal leaves all that is lent as it was.
+ghost use Prim.Native.Nat.{_≤_, _<_};
+ghost use mathlib.Core.Path.{_≡_};
+ghost use Rattle.standard.specs.Picture.{Rules};
+ghost use Rattle.standard.specs.Refusals.{Tells};
+ghost use Rattle.steamgusset.specs.Boundary.{Held, digit, numbersOf, stateOf, inByte, widthOf, heightOf, sizesOf};
+ghost use Rattle.steamgusset.specs.Exports.{OpenCrosses, ReadCrosses, WriteCrosses, DeliverCrosses, FilterCrosses, RowsCrosses, SizesCross, BlockCrosses};
+use standard::Answer;
+use standard::Picture;
+use standard::ReadAnswer;
+use standard::RowsAnswer;
+use standard::State;
+use standard::WriteAnswer;
+
+// ---- what crosses
+
+// Whether the fields of a state hold the numbers.
+fn is_held(a: &[u32; 8]) -> bool
+    ensures { λ r. ⌜ Tells (Held (now (a .entry))) r ⌝ }
+{
+    if a[3] > 255 {
+        return false;
+    }
+    if a[4] > 255 {
+        return false;
+    }
+    if a[5] > 1 {
+        return false;
+    }
+    a[6] <= 1
+}
+
+fn state_of(a: &[u32; 8]) -> State
+    requires { ⌜ Held (now a) ⌝ }
+    ensures { λ r. ⌜ r ≡ stateOf (now (a .entry)) ⌝ }
+{
+    let width = a[0];
+    let height = a[1];
+    let ctb = a[2];
+    let format = a[3] as u8;
+    let depth = a[4] as u8;
+    let luma = a[5] != 0;
+    let chroma = a[6] != 0;
+    let next = a[7];
+    let picture = Picture {
+        width,
+        height,
+        ctb,
+        format,
+        depth,
+        luma,
+        chroma,
+    };
+    State { picture, next }
+}
+
+// A switch is 1 where it is on.
+fn digit_of(on: bool) -> u32
+    ensures { λ r. ⌜ r ≡ digit on ⌝ }
+{
+    if on { 1 } else { 0 }
+}
+
+// All eight at once: how long an array behind a reference is, the prover is not told, and so it
+// follows no store to one of its places.
+fn numbers_of(s: State) -> [u32; 8]
+    ensures { λ r. ⌜ r ≡ numbersOf s ⌝ }
+{
+    let p = s.picture;
+    [
+        p.width,
+        p.height,
+        p.ctb,
+        p.format as u32,
+        p.depth as u32,
+        digit_of(p.luma),
+        digit_of(p.chroma),
+        s.next,
+    ]
+}
+
+// A component's number in a byte. No picture has a component 255, so a larger number means no other.
+fn in_byte(component: u32) -> u8
+    ensures { λ r. ⌜ r ≡ inByte component ⌝ }
+{
+    if component > 255 {
+        255
+    } else {
+        component as u8
+    }
+}
+
+// ---- the calls
+
+#[no_mangle]
+pub extern "C" fn sg_open(state: &mut [u32; 8], marks: &mut [u8]) -> u32
+    ensures { λ r. ⌜ OpenCrosses (now (state .entry)) (now (marks .entry)) r (now (state .exit)) (now (marks .exit)) ⌝ }
+{
+    if !is_held(state) {
+        return 1;
+    }
+    let s = state_of(state);
+    let o = opening::open(s, marks);
+    let a = o.answer;
+    match a {
+        Answer::Refused(r) => r.number(),
+        Answer::Done => {
+            let opened = o.state;
+            *state = numbers_of(opened);
+            0
+        }
+    }
+}
+
+#[no_mangle]
+pub extern "C" fn sg_read(
+    state: &mut [u32; 8],
+    bins: &[u8],
+    count: usize,
+    table: &mut [u8],
+    set: &mut [u8; 18],
+) -> u32
+    ensures { λ r. ⌜ ReadCrosses (now (state .entry)) (now (bins .entry)) count (now (table .entry)) (now (set .entry)) r (now (state .exit)) (now (table .exit)) (now (set .exit)) ⌝ }
+{
+    if !is_held(state) {
+        return 1;
+    }
+    let s = state_of(state);
+    let o = reading::read(s, bins, count, table);
+    let a = o.answer;
+    match a {
+        ReadAnswer::Refused(r) => r.number(),
+        ReadAnswer::Set(q) => {
+            let advanced = o.state;
+            *state = numbers_of(advanced);
+            sets::put_set(set, 0, q);
+            0
+        }
+    }
+}
+
+#[no_mangle]
+pub extern "C" fn sg_write(
+    state: &mut [u32; 8],
+    set: &[u8; 18],
+    out: &mut [u8],
+    table: &mut [u8],
+    count: &mut usize,
+) -> u32
+    ensures { λ r. ⌜ WriteCrosses (now (state .entry)) (now (set .entry)) (now (out .entry)) (now (table .entry)) (now (count .entry)) r (now (state .exit)) (now (out .exit)) (now (table .exit)) (now (count .exit)) ⌝ }
+{
+    if !is_held(state) {
+        return 1;
+    }
+    let o = writing::write(state_of(state), sets::set_said(set), out, table);
+    let a = o.answer;
+    match a {
+        WriteAnswer::Refused(r) => r.number(),
+        WriteAnswer::Bins(n) => {
+            let after = o.state;
+            *state = numbers_of(after);
+            *count = n;
+            0
+        }
+    }
+}
+
+#[no_mangle]
+pub extern "C" fn sg_deliver(
+    state: &[u32; 8],
+    component: u32,
+    ctb: u32,
+    samples: &[u16],
+    y: &mut [u16],
+    cb: &mut [u16],
+    cr: &mut [u16],
+    marks: &mut [u8],
+) -> u32
+    ensures { λ r. ⌜ DeliverCrosses (now (state .entry)) component ctb (now (samples .entry)) (record { y = now (y .entry); cb = now (cb .entry); cr = now (cr .entry) }) (now (marks .entry)) r (record { y = now (y .exit); cb = now (cb .exit); cr = now (cr .exit) }) (now (marks .exit)) ⌝ }
+{
+    if !is_held(state) {
+        return 1;
+    }
+    let s = state_of(state);
+    let i = in_byte(component);
+    let o = delivering::deliver(s, i, ctb, samples, y, cb, cr, marks);
+    let a = o.answer;
+    match a {
+        Answer::Refused(r) => r.number(),
+        Answer::Done => 0,
+    }
+}
+
+#[no_mangle]
+pub extern "C" fn sg_filter(
+    state: &[u32; 8],
+    component: u32,
+    ctb: u32,
+    y: &[u16],
+    cb: &[u16],
+    cr: &[u16],
+    out_y: &mut [u16],
+    out_cb: &mut [u16],
+    out_cr: &mut [u16],
+    marks: &mut [u8],
+    table: &[u8],
+) -> u32
+    ensures { λ r. ⌜ FilterCrosses (now (state .entry)) component ctb (record { y = now (y .entry); cb = now (cb .entry); cr = now (cr .entry) }) (record { y = now («out_y» .entry); cb = now («out_cb» .entry); cr = now («out_cr» .entry) }) (now (marks .entry)) (now (table .entry)) r (record { y = now («out_y» .exit); cb = now («out_cb» .exit); cr = now («out_cr» .exit) }) (now (marks .exit)) ⌝ }
+{
+    if !is_held(state) {
+        return 1;
+    }
+    let s = state_of(state);
+    let i = in_byte(component);
+    let o = filtering::filter(s, i, ctb, y, cb, cr, out_y, out_cb, out_cr, marks, table);
+    let a = o.answer;
+    match a {
+        Answer::Refused(r) => r.number(),
+        Answer::Done => 0,
+    }
+}
+
+// Of the finished rows, which are the caller's own, how many rows and how many samples there are.
+#[no_mangle]
+pub extern "C" fn sg_finished_rows<'a>(
+    state: &[u32; 8],
+    component: u32,
+    y: &'a [u16],
+    cb: &'a [u16],
+    cr: &'a [u16],
+    marks: &[u8],
+    finished: &mut [usize; 2],
+) -> u32
+    ensures { λ r. ⌜ RowsCrosses (now (state .entry)) component (record { y = now (y .entry); cb = now (cb .entry); cr = now (cr .entry) }) (now (marks .entry)) (now (finished .entry)) r (now (finished .exit)) ⌝ }
+{
+    if !is_held(state) {
+        return 1;
+    }
+    let s = state_of(state);
+    let i = in_byte(component);
+    let o = finishing::finished_count(s, i, y, cb, cr, marks);
+    let a = o.answer;
+    match a {
+        RowsAnswer::Refused(r) => r.number(),
+        RowsAnswer::Rows(n) => {
+            let part = finishing::finished_rows(s, i, y, cb, cr, marks);
+            *finished = [n, part.len()];
+            0
+        }
+    }
+}
+
+// ---- what a caller has to lend
+
+// An absent component has a plane of no width and no height.
+fn width_of(p: Picture, i: u8) -> usize
+    requires { ⌜ Rules p ⌝ }
+    ensures { λ r. ⌜ r ≡ widthOf p i ⌝ }
+{
+    if geometry::no_such_component(p, i) {
+        return 0;
+    }
+    geometry::plane_width(p, i)
+}
+
+fn height_of(p: Picture, i: u8) -> usize
+    requires { ⌜ Rules p ⌝ }
+    ensures { λ r. ⌜ r ≡ heightOf p i ⌝ }
+{
+    if geometry::no_such_component(p, i) {
+        return 0;
+    }
+    geometry::plane_height(p, i)
+}
+
+fn sizes_of(p: Picture) -> [usize; 14]
+    requires { ⌜ Rules p ⌝ }
+    ensures { λ r. ⌜ r ≡ sizesOf p ⌝ }
+{
+    [
+        width_of(p, 0),
+        width_of(p, 1),
+        width_of(p, 2),
+        height_of(p, 0),
+        height_of(p, 1),
+        height_of(p, 2),
+        geometry::sample_count(p, 0),
+        geometry::sample_count(p, 1),
+        geometry::sample_count(p, 2),
+        geometry::columns_of(p),
+        geometry::rows_of(p),
+        geometry::ctu_count(p),
+        geometry::mark_count(p),
+        geometry::table_size(p),
+    ]
+}
+
+#[no_mangle]
+pub extern "C" fn sg_sizes(state: &[u32; 8], sizes: &mut [usize; 14]) -> u32
+    ensures { λ r. ⌜ SizesCross (now (state .entry)) (now (sizes .entry)) r (now (sizes .exit)) ⌝ }
+{
+    if !is_held(state) {
+        return 1;
+    }
+    let s = state_of(state);
+    let p = s.picture;
+    if !geometry::is_described(p) {
+        return 1;
+    }
+    *sizes = sizes_of(p);
+    0
+}
+
+// Where the samples of a CTB lie in its plane.
+#[no_mangle]
+pub extern "C" fn sg_block(
+    state: &[u32; 8],
+    component: u32,
+    ctb: u32,
+    block: &mut [usize; 4],
+) -> u32
+    ensures { λ r. ⌜ BlockCrosses (now (state .entry)) component ctb (now (block .entry)) r (now (block .exit)) ⌝ }
+{
+    if !is_held(state) {
+        return 1;
+    }
+    let s = state_of(state);
+    let p = s.picture;
+    let i = in_byte(component);
+    if !geometry::is_described(p) {
+        return 1;
+    }
+    if geometry::no_such_block(p, i, ctb) {
+        return 3;
+    }
+    let r = geometry::ctb_rectangle(p, i, ctb);
+    *block = [r.x0, r.x1, r.y0, r.y1];
+    0
+}

@@ -1,0 +1,166 @@
+//! `steamgusset bins`: one CTU's bins read and explained, or written.
+
+use super::arguments::{Arguments, Known, long};
+use super::explain::{Element, Explained, Syntax, digits, explained};
+use super::{Ended, Mistake, Status, set_text};
+use std::ffi::OsString;
+use std::io::{self, Write};
+use steamgusset::{BINS_BYTES, CtuSet, Picture, Stage};
+
+pub const HELP: &str = "\
+steamgusset bins [options] HEX COUNT
+steamgusset bins [options] --set SET
+
+Reads the sao() syntax of one CTU from bins, or writes a set to bins, through the stage, and explains the bins element by
+element. HEX is the bins' bytes, packed from the most significant bit of the first; COUNT says how many bins there are.
+
+options:
+  --depth N          bit depth, 8 to 16; without it 8
+  --luma on|off      the luma switch; without it on
+  --chroma on|off    on: a 4:2:0 picture with chroma filtered; without it off: a monochrome one
+  --left SET         the CTU has a left neighbour with this set
+  --up SET           the CTU has an upper neighbour with this set
+  --set SET          writes this set
+
+A SET is LUMA/CB/CR, each of them off, band:POSITION:A,B,C,D or edge:CLASS:A,B,C,D with four offsets as coded, signs put
+in; what is left out at the end is off. Or it is the 36 hex digits of a table entry.
+
+The CTU is the last of a picture of as many CTUs of 64x64 as its neighbours ask for. What the bins mean, and whether they
+are refused, the stage says; a refusal is on the error stream with its number.
+
+examples:
+  steamgusset bins --depth 8 E340 11
+  steamgusset bins --set edge:2:1,0,0,-2
+  steamgusset bins --chroma on --set off/band:30:0,-3,0,1/band:2:1,1,1,1
+  steamgusset bins --left edge:2:1,0,0,-2 --up off 80 1
+
+exit status: 0 read or written; 1 refused; 2 a bad command line
+";
+
+const OPTIONS: [Known; 6] =
+    [long("--depth"), long("--luma"), long("--chroma"), long("--left"), long("--up"), long("--set")];
+
+const CTB: u32 = 64;
+
+pub fn run(words: &[OsString], out: &mut dyn Write) -> Ended {
+    let arguments = Arguments::parse(words, &OPTIONS)?;
+    let ctu = Ctu::parse(&arguments)?;
+    match set(&arguments, "--set")? {
+        Some(set) if arguments.plain.is_empty() => ctu.write(&set, out),
+        Some(_) => Err(Mistake::CommandLine("--set takes the place of HEX and COUNT".into())),
+        None => {
+            let (bytes, count) = typed_bins(&arguments.plain)?;
+            ctu.read(&bytes, count, out)
+        }
+    }
+}
+
+fn set(arguments: &Arguments, name: &str) -> Result<Option<CtuSet>, Mistake> {
+    let text = arguments.text(name)?;
+    text.map(set_text::parse).transpose().map_err(|why| Mistake::CommandLine(format!("{name}: {why}")))
+}
+
+/// The bytes and the count. The bytes may be typed in several words, as they are printed in papers.
+fn typed_bins(words: &[OsString]) -> Result<(Vec<u8>, usize), Mistake> {
+    let Some((count, bytes @ [_, ..])) = words.split_last() else {
+        return Err(Mistake::CommandLine("bins needs HEX and COUNT, or --set SET".into()));
+    };
+    let (count, joined) = (count.to_string_lossy(), bytes.join("".as_ref()));
+    let joined = joined.to_string_lossy();
+    let wrong = |what: &str| Mistake::CommandLine(what.into());
+    let bytes = set_text::hex(&joined).ok_or_else(|| wrong(&format!("{joined} is not hex digits in pairs")))?;
+    let count = count.parse().map_err(|_| wrong(&format!("the count {count} is no number of bins")))?;
+    Ok((bytes, count))
+}
+
+/// The CTU that the bins are of: its picture, and the sets of the neighbours it has.
+struct Ctu {
+    picture: Picture,
+    left: Option<CtuSet>,
+    up: Option<CtuSet>,
+}
+
+impl Ctu {
+    fn parse(arguments: &Arguments) -> Result<Ctu, Mistake> {
+        let (left, up) = (set(arguments, "--left")?, set(arguments, "--up")?);
+        let chroma = arguments.switch("--chroma", false)?;
+        let side = |neighbour: Option<CtuSet>| if neighbour.is_some() { 2 * CTB } else { CTB };
+        let picture = Picture {
+            width: side(left),
+            height: side(up),
+            ctb: CTB,
+            format: u8::from(chroma),
+            depth: arguments.number("--depth", 8, 16, 8)?,
+            luma: arguments.switch("--luma", true)?,
+            chroma,
+        };
+        Ok(Ctu { picture, left, up })
+    }
+
+    fn syntax(&self) -> Syntax {
+        let Picture { luma, chroma, depth, .. } = self.picture;
+        let largest = (1 << (depth.min(10) - 5)) - 1;
+        Syntax { luma, chroma, left: self.left.is_some(), up: self.up.is_some(), largest }
+    }
+
+    /// The stage with the neighbours' sets in. The CTU is the last, so its neighbours are the ones before it.
+    fn opened(&self) -> Result<Stage<'static>, Mistake> {
+        let mut stage = Stage::open(self.picture).map_err(|refusal| Mistake::Failed(refusal.to_string()))?;
+        let corner = self.left.and(self.up).map(|_| CtuSet::OFF);
+        let before = [("corner", corner), ("upper", self.up), ("left", self.left)];
+        for (which, set) in before.into_iter().filter_map(|(which, set)| Some((which, set?))) {
+            let written = stage.write(&set, &mut [0; BINS_BYTES]);
+            written.map_err(|refusal| Mistake::Failed(format!("the {which} neighbour's set is {refusal}")))?;
+        }
+        Ok(stage)
+    }
+
+    fn read(&self, bytes: &[u8], count: usize, out: &mut dyn Write) -> Ended {
+        let read = self.opened()?.read(bytes, count);
+        self.explain(bytes, count, out)?;
+        let set = read.map_err(|refusal| Mistake::Failed(refusal.to_string()))?;
+        show_set(&set, out)?;
+        Ok(Status::Fine)
+    }
+
+    fn write(&self, set: &CtuSet, out: &mut dyn Write) -> Ended {
+        let mut room = [0; BINS_BYTES];
+        let written = self.opened()?.write(set, &mut room);
+        let count = written.map_err(|refusal| Mistake::Failed(refusal.to_string()))?;
+        self.explain(&room[..count.div_ceil(8)], count, out)?;
+        show_set(set, out)?;
+        Ok(Status::Fine)
+    }
+
+    fn explain(&self, bytes: &[u8], count: usize, out: &mut dyn Write) -> io::Result<()> {
+        let plural = if count == 1 { "bin" } else { "bins" };
+        writeln!(out, "{count} {plural}: {}", if bytes.is_empty() { "none".into() } else { set_text::digits(bytes) })?;
+        let digits = digits(bytes, count);
+        if digits.len() < count {
+            return writeln!(out, "    the bytes hold {} bins", digits.len());
+        }
+        let Explained { elements, rest, whole } = explained(&self.syntax(), &digits);
+        let longest = elements.iter().map(|element| element.bins.len()).max().unwrap_or(0);
+        for element in &elements {
+            show_element(element, longest, out)?;
+        }
+        match (whole, rest.as_str()) {
+            (true, "") => Ok(()),
+            (true, _) => writeln!(out, "    bins that remain: {rest}"),
+            (false, "") => writeln!(out, "    the bins end here"),
+            (false, _) => writeln!(out, "    the bins end here, within an element: {rest}"),
+        }
+    }
+}
+
+fn show_element(element: &Element, longest: usize, out: &mut dyn Write) -> io::Result<()> {
+    let Element { component, name, bins, value, meaning } = element;
+    let line = format!("    {component:2} {name:20} {bins:longest$}  {value} {meaning}");
+    writeln!(out, "{}", line.trim_end())
+}
+
+fn show_set(set: &CtuSet, out: &mut dyn Write) -> io::Result<()> {
+    writeln!(out, "set: {}", set_text::shown(set))?;
+    writeln!(out, "table entry: {}", set_text::digits(&set.to_bytes()))?;
+    out.flush()
+}

@@ -1,0 +1,155 @@
+//! Images to look at: planes turned into colours, and written as PNG or PPM.
+//!
+//! Colours are those of BT.709 in limited range, whatever the stream says: luma 16 to 235 and chroma 16 to 240 at depth
+//! 8, and their multiples above. A chroma sample serves the four luma samples it belongs to. A PNG here is not packed:
+//! its deflate blocks are stored, which every reader takes and which needs no compressor.
+
+use steamgusset::Picture;
+
+/// An image of 8-bit red, green and blue.
+pub struct Image {
+    width: usize,
+    height: usize,
+    pixels: Vec<[u8; 3]>,
+}
+
+impl Image {
+    /// A picture's planes in colour; a monochrome one in grey.
+    pub fn of_planes(picture: &Picture, planes: [&[u16]; 3]) -> Image {
+        let [luma, cb, cr] = planes;
+        let (width, height) = (picture.width as usize, picture.height as usize);
+        let unit = f64::from(1u32 << (picture.depth - 8));
+        let chroma = |plane: &[u16], place: usize| {
+            let (x, y) = (place % width / 2, place / width / 2);
+            plane.get(y * (width / 2) + x).map_or(0.0, |sample| (f64::from(*sample) / unit - 128.0) / 224.0)
+        };
+        let pixel = |(place, sample): (usize, &u16)| {
+            let light = (f64::from(*sample) / unit - 16.0) / 219.0;
+            colour(light, chroma(cb, place), chroma(cr, place))
+        };
+        Image { width, height, pixels: luma.iter().enumerate().map(pixel).collect() }
+    }
+
+    /// What became of luma, amplified: grey 128 is no change, lighter is more.
+    pub fn of_difference(picture: &Picture, before: &[u16], after: &[u16], amplify: u8) -> Image {
+        let pixel = |(before, after): (&u16, &u16)| {
+            let change = (i32::from(*after) - i32::from(*before)) * i32::from(amplify);
+            [(128 + change).clamp(0, 255) as u8; 3]
+        };
+        let pixels = before.iter().zip(after).map(pixel).collect();
+        Image { width: picture.width as usize, height: picture.height as usize, pixels }
+    }
+
+    pub fn to_ppm(&self) -> Vec<u8> {
+        let mut bytes = format!("P6\n{} {}\n255\n", self.width, self.height).into_bytes();
+        bytes.extend(self.pixels.as_flattened());
+        bytes
+    }
+
+    pub fn to_png(&self) -> Vec<u8> {
+        let mut header = Vec::new();
+        header.extend((self.width as u32).to_be_bytes());
+        header.extend((self.height as u32).to_be_bytes());
+        // Depth 8, colour type RGB, and the only compression, filter and interlace methods but one.
+        header.extend([8, 2, 0, 0, 0]);
+        let mut rows = Vec::with_capacity(self.height * (1 + 3 * self.width));
+        for row in self.pixels.chunks(self.width) {
+            rows.push(0); // This row is not filtered.
+            rows.extend(row.as_flattened());
+        }
+        let mut bytes = b"\x89PNG\r\n\x1a\n".to_vec();
+        chunk(&mut bytes, b"IHDR", &header);
+        chunk(&mut bytes, b"IDAT", &zlib_stored(&rows));
+        chunk(&mut bytes, b"IEND", &[]);
+        bytes
+    }
+}
+
+/// Red, green and blue of BT.709, from light between 0 and 1 and colour differences around 0.
+fn colour(light: f64, cb: f64, cr: f64) -> [u8; 3] {
+    let rgb = [light + 1.5748 * cr, light - 0.1873 * cb - 0.4681 * cr, light + 1.8556 * cb];
+    rgb.map(|part| (part.clamp(0.0, 1.0) * 255.0).round() as u8)
+}
+
+fn chunk(bytes: &mut Vec<u8>, kind: &[u8; 4], content: &[u8]) {
+    bytes.extend((content.len() as u32).to_be_bytes());
+    let start = bytes.len();
+    bytes.extend(kind);
+    bytes.extend(content);
+    let check = crc32(&bytes[start..]);
+    bytes.extend(check.to_be_bytes());
+}
+
+/// The bytes as a zlib stream of stored blocks.
+fn zlib_stored(bytes: &[u8]) -> Vec<u8> {
+    // Window of 32768, and a check that makes the two bytes a multiple of 31.
+    let mut stream = vec![0x78, 0x01];
+    let blocks = bytes.len().div_ceil(0xFFFF);
+    for (number, block) in bytes.chunks(0xFFFF).enumerate() {
+        let length = block.len() as u16;
+        stream.push(u8::from(number + 1 == blocks));
+        stream.extend(length.to_le_bytes());
+        stream.extend((!length).to_le_bytes());
+        stream.extend(block);
+    }
+    stream.extend(adler32(bytes).to_be_bytes());
+    stream
+}
+
+fn adler32(bytes: &[u8]) -> u32 {
+    let (mut sum, mut sum_of_sums) = (1, 0);
+    for byte in bytes {
+        sum = (sum + u32::from(*byte)) % 65521;
+        sum_of_sums = (sum_of_sums + sum) % 65521;
+    }
+    sum_of_sums << 16 | sum
+}
+
+fn crc32(bytes: &[u8]) -> u32 {
+    !bytes.iter().fold(!0, |crc, byte| CRC_TABLE[((crc ^ u32::from(*byte)) & 0xFF) as usize] ^ crc >> 8)
+}
+
+const CRC_TABLE: [u32; 256] = {
+    let mut table = [0; 256];
+    let mut byte = 0;
+    while byte < 256 {
+        table[byte] = crc_of_byte(byte as u32);
+        byte += 1;
+    }
+    table
+};
+
+const fn crc_of_byte(byte: u32) -> u32 {
+    let mut crc = byte;
+    let mut bit = 0;
+    while bit < 8 {
+        crc = if crc & 1 == 1 { crc >> 1 ^ 0xEDB8_8320 } else { crc >> 1 };
+        bit += 1;
+    }
+    crc
+}
+
+#[cfg(test)]
+mod tests {
+    use super::*;
+
+    #[test]
+    fn the_checks_are_the_known_ones() {
+        assert_eq!(crc32(b"123456789"), 0xCBF4_3926);
+        assert_eq!(adler32(b"Wikipedia"), 0x11E6_0398);
+    }
+
+    #[test]
+    fn black_white_and_grey() {
+        assert_eq!(colour(0.0, 0.0, 0.0), [0, 0, 0]);
+        assert_eq!(colour(1.0, 0.0, 0.0), [255, 255, 255]);
+        assert_eq!(colour(0.5, 0.0, 0.0), [128, 128, 128]);
+    }
+
+    #[test]
+    fn red_is_red() {
+        // BT.709 red at depth 8: Y 63, Cb 102, Cr 240.
+        let red = colour((63.0 - 16.0) / 219.0, (102.0 - 128.0) / 224.0, (240.0 - 128.0) / 224.0);
+        assert!(red[0] >= 254 && red[1] <= 1 && red[2] <= 1, "{red:?}");
+    }
+}

@@ -1,0 +1,336 @@
+//! The C interface: the functions of `libsteamgusset.a` as `include/steamgusset.h` declares them, and what crosses.
+//!
+//! This is the one module with `unsafe` in it. Each function is declared as it is exported; below, each has a safe
+//! function that lends it slices and hands back its bare answer, 0 or a refusal's number. [`calls`](crate::calls) gives
+//! the answers their meaning.
+//!
+//! Why lending a slice is sound:
+//!
+//! - a slice's pointer is aligned and valid for as many elements as its length says, which is what crosses beside it;
+//!   an empty slice's is never followed;
+//! - what is lent to be written is borrowed with `&mut`, so that nothing else that crosses overlaps it;
+//! - the functions are proved: they have no precondition, stay inside what they are lent, and keep none of it after
+//!   they answer; they have no memory of their own, so calls from several threads do not meet;
+//! - what they leave are numbers of the types declared, of which every value is valid.
+#![allow(unsafe_code)]
+
+use crate::sets::SET_BYTES;
+
+/// The state: the description and the number of the next CTU to be read or written. Plain numbers, so that a wrong one
+/// can be handed in and refused.
+#[derive(Clone, Copy, Debug, Default, PartialEq, Eq, Hash)]
+#[repr(C)]
+pub struct State {
+    /// The picture's width in luma samples.
+    pub width: u32,
+    /// The picture's height in luma samples.
+    pub height: u32,
+    /// CTB size in luma samples: 16, 32 or 64.
+    pub ctb: u32,
+    /// chroma_format_idc: 0 monochrome, 1 is 4:2:0.
+    pub format: u32,
+    /// Bit depth, 8 to 16.
+    pub depth: u32,
+    /// The switch that says whether luma is filtered, 0 or 1.
+    pub luma: u32,
+    /// The switch that says whether Cb and Cr are filtered, 0 or 1.
+    pub chroma: u32,
+    /// The number of the next CTU to be read or written.
+    pub next: u32,
+}
+
+/// The sizes of a picture and the lengths of the buffers to lend. An absent component has 0 everywhere.
+#[derive(Clone, Copy, Debug, Default, PartialEq, Eq, Hash)]
+#[repr(C)]
+pub struct Sizes {
+    /// The width of each plane in its own samples: luma, Cb, Cr.
+    pub width: [usize; 3],
+    /// The height of each plane in its own samples.
+    pub height: [usize; 3],
+    /// The length of each plane in samples.
+    pub samples: [usize; 3],
+    /// CTB columns.
+    pub columns: usize,
+    /// CTB rows.
+    pub rows: usize,
+    /// The CTU count, columns times rows.
+    pub ctus: usize,
+    /// The length of the marks in bytes.
+    pub marks: usize,
+    /// The length of the table in bytes.
+    pub table: usize,
+}
+
+/// Where a CTB lies in its plane: columns `x0` up to, and without, `x1`, rows `y0` up to, and without, `y1`.
+#[derive(Clone, Copy, Debug, Default, PartialEq, Eq, Hash)]
+#[repr(C)]
+pub struct Block {
+    /// The first column.
+    pub x0: usize,
+    /// The column after the last.
+    pub x1: usize,
+    /// The first row.
+    pub y0: usize,
+    /// The row after the last.
+    pub y1: usize,
+}
+
+impl Block {
+    /// How many samples a row of it has.
+    #[must_use]
+    pub const fn width(&self) -> usize {
+        self.x1.saturating_sub(self.x0)
+    }
+
+    /// How many rows it has.
+    #[must_use]
+    pub const fn height(&self) -> usize {
+        self.y1.saturating_sub(self.y0)
+    }
+
+    /// How many samples it has: as many are delivered.
+    #[must_use]
+    pub const fn samples(&self) -> usize {
+        self.width().saturating_mul(self.height())
+    }
+}
+
+/// How much of a filtered plane is finished.
+#[derive(Clone, Copy, Debug, Default, PartialEq, Eq, Hash)]
+#[repr(C)]
+pub struct Rows {
+    /// The number of finished sample rows.
+    pub rows: usize,
+    /// The samples in them: that leading part of the plane may be used as reference.
+    pub samples: usize,
+}
+
+// The exported functions take these as arrays of eight, fourteen, four and two numbers.
+const _: () = assert!(size_of::<State>() == size_of::<[u32; 8]>());
+const _: () = assert!(size_of::<Sizes>() == size_of::<[usize; 14]>());
+const _: () = assert!(size_of::<Block>() == size_of::<[usize; 4]>());
+const _: () = assert!(size_of::<Rows>() == size_of::<[usize; 2]>());
+
+unsafe extern "C" {
+    /// Sets the marks and the next CTU to 0.
+    ///
+    /// # Safety
+    ///
+    /// As for every function here that takes pointers: each must be valid for the length beside it, and what may be
+    /// written must overlap nothing else that is lent. A null pointer with length 0 is fine.
+    pub unsafe fn sg_open(state: &mut State, marks: *mut u8, marks_length: usize) -> u32;
+
+    /// Reads the next CTU's set from the first `count` bins.
+    ///
+    /// # Safety
+    ///
+    /// As for [`sg_open`].
+    pub unsafe fn sg_read(
+        state: &mut State,
+        bins: *const u8,
+        bins_length: usize,
+        count: usize,
+        table: *mut u8,
+        table_length: usize,
+        set: &mut [u8; SET_BYTES],
+    ) -> u32;
+
+    /// Writes the next CTU's set as bins and says how many.
+    ///
+    /// # Safety
+    ///
+    /// As for [`sg_open`].
+    pub unsafe fn sg_write(
+        state: &mut State,
+        set: &[u8; SET_BYTES],
+        out: *mut u8,
+        out_length: usize,
+        table: *mut u8,
+        table_length: usize,
+        count: &mut usize,
+    ) -> u32;
+
+    /// Takes a CTB's samples into its deblocked plane.
+    ///
+    /// # Safety
+    ///
+    /// As for [`sg_open`].
+    pub unsafe fn sg_deliver(
+        state: &State,
+        component: u32,
+        ctb: u32,
+        samples: *const u16,
+        samples_length: usize,
+        y: *mut u16,
+        y_length: usize,
+        cb: *mut u16,
+        cb_length: usize,
+        cr: *mut u16,
+        cr_length: usize,
+        marks: *mut u8,
+        marks_length: usize,
+    ) -> u32;
+
+    /// Filters a CTB into its filtered plane.
+    ///
+    /// # Safety
+    ///
+    /// As for [`sg_open`].
+    pub unsafe fn sg_filter(
+        state: &State,
+        component: u32,
+        ctb: u32,
+        y: *const u16,
+        y_length: usize,
+        cb: *const u16,
+        cb_length: usize,
+        cr: *const u16,
+        cr_length: usize,
+        out_y: *mut u16,
+        out_y_length: usize,
+        out_cb: *mut u16,
+        out_cb_length: usize,
+        out_cr: *mut u16,
+        out_cr_length: usize,
+        marks: *mut u8,
+        marks_length: usize,
+        table: *const u8,
+        table_length: usize,
+    ) -> u32;
+
+    /// Says how much of a filtered plane is finished.
+    ///
+    /// # Safety
+    ///
+    /// As for [`sg_open`].
+    pub unsafe fn sg_finished_rows(
+        state: &State,
+        component: u32,
+        y: *const u16,
+        y_length: usize,
+        cb: *const u16,
+        cb_length: usize,
+        cr: *const u16,
+        cr_length: usize,
+        marks: *const u8,
+        marks_length: usize,
+        finished: &mut Rows,
+    ) -> u32;
+
+    /// Says the sizes of a picture and the lengths of the buffers to lend.
+    pub safe fn sg_sizes(state: &State, sizes: &mut Sizes) -> u32;
+
+    /// Says where a CTB lies in its plane.
+    pub safe fn sg_block(state: &State, component: u32, ctb: u32, block: &mut Block) -> u32;
+}
+
+// The same on slices.
+
+pub(crate) fn open(state: &mut State, marks: &mut [u8]) -> u32 {
+    // SAFETY: a slice is lent with its own length; see the top of the module.
+    unsafe { sg_open(state, marks.as_mut_ptr(), marks.len()) }
+}
+
+pub(crate) fn read(state: &mut State, bins: &[u8], count: usize, table: &mut [u8], set: &mut [u8; SET_BYTES]) -> u32 {
+    // SAFETY: each slice is lent with its own length; see the top of the module. The count is judged by the length.
+    unsafe { sg_read(state, bins.as_ptr(), bins.len(), count, table.as_mut_ptr(), table.len(), set) }
+}
+
+pub(crate) fn write(
+    state: &mut State,
+    set: &[u8; SET_BYTES],
+    out: &mut [u8],
+    table: &mut [u8],
+    count: &mut usize,
+) -> u32 {
+    // SAFETY: each slice is lent with its own length; see the top of the module.
+    unsafe { sg_write(state, set, out.as_mut_ptr(), out.len(), table.as_mut_ptr(), table.len(), count) }
+}
+
+pub(crate) fn deliver(
+    state: &State,
+    component: u32,
+    ctb: u32,
+    samples: &[u16],
+    [y, cb, cr]: [&mut [u16]; 3],
+    marks: &mut [u8],
+) -> u32 {
+    // SAFETY: each slice is lent with its own length; see the top of the module.
+    unsafe {
+        sg_deliver(
+            state,
+            component,
+            ctb,
+            samples.as_ptr(),
+            samples.len(),
+            y.as_mut_ptr(),
+            y.len(),
+            cb.as_mut_ptr(),
+            cb.len(),
+            cr.as_mut_ptr(),
+            cr.len(),
+            marks.as_mut_ptr(),
+            marks.len(),
+        )
+    }
+}
+
+pub(crate) fn filter(
+    state: &State,
+    component: u32,
+    ctb: u32,
+    [y, cb, cr]: [&[u16]; 3],
+    [out_y, out_cb, out_cr]: [&mut [u16]; 3],
+    marks: &mut [u8],
+    table: &[u8],
+) -> u32 {
+    // SAFETY: each slice is lent with its own length; see the top of the module.
+    unsafe {
+        sg_filter(
+            state,
+            component,
+            ctb,
+            y.as_ptr(),
+            y.len(),
+            cb.as_ptr(),
+            cb.len(),
+            cr.as_ptr(),
+            cr.len(),
+            out_y.as_mut_ptr(),
+            out_y.len(),
+            out_cb.as_mut_ptr(),
+            out_cb.len(),
+            out_cr.as_mut_ptr(),
+            out_cr.len(),
+            marks.as_mut_ptr(),
+            marks.len(),
+            table.as_ptr(),
+            table.len(),
+        )
+    }
+}
+
+pub(crate) fn finished_rows(
+    state: &State,
+    component: u32,
+    [y, cb, cr]: [&[u16]; 3],
+    marks: &[u8],
+    finished: &mut Rows,
+) -> u32 {
+    // SAFETY: each slice is lent with its own length; see the top of the module.
+    unsafe {
+        sg_finished_rows(
+            state,
+            component,
+            y.as_ptr(),
+            y.len(),
+            cb.as_ptr(),
+            cb.len(),
+            cr.as_ptr(),
+            cr.len(),
+            marks.as_ptr(),
+            marks.len(),
+            finished,
+        )
+    }
+}

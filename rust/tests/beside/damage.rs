@@ -1,0 +1,209 @@
+//! Damages to what is lent or kept, for a copy of a run's world and state.
+
+use crate::call::Call;
+use crate::draw::Draw;
+use crate::judge::in_byte;
+use crate::spoil::{above, set_byte, wrong_length};
+use Damage::*;
+use second::generate;
+use second::table::{self, ENTRY};
+use second::{Picture, World};
+use steamgusset::ffi::State;
+
+/// The kinds of damage.
+#[derive(Clone, Copy, Debug, PartialEq, Eq)]
+pub enum Damage {
+    Field,
+    Rule,
+    Description,
+    Next,
+    DeblockedLength,
+    FilteredLength,
+    MarksLength,
+    TableLength,
+    Marks,
+    Table,
+    Samples,
+}
+
+/// Each kind, in words.
+pub const DAMAGES: [(Damage, &str); 11] = [
+    (Field, "a number that no field holds"),
+    (Rule, "a description that breaks a rule"),
+    (Description, "another description"),
+    (Next, "the next CTU"),
+    (DeblockedLength, "a deblocked plane's length"),
+    (FilteredLength, "a filtered plane's length"),
+    (MarksLength, "the marks' length"),
+    (TableLength, "the table's length"),
+    (Marks, "marks"),
+    (Table, "table bytes"),
+    (Samples, "samples above the depth"),
+];
+
+/// What a call asks after besides the state; what answers rarely stands more often.
+fn asked_after(call: &Call) -> &'static [Damage] {
+    match call {
+        Call::Open => &[MarksLength],
+        Call::Read { .. } | Call::Write { .. } => &[TableLength, Table, Table, Table, Table],
+        Call::Deliver { .. } => &[DeblockedLength, MarksLength, Marks],
+        Call::Filter { .. } => {
+            &[DeblockedLength, FilteredLength, MarksLength, TableLength, Marks, Marks, Table, Table, Samples, Samples]
+        }
+        Call::FinishedRows { .. } => &[FilteredLength, MarksLength, Marks],
+    }
+}
+
+impl Draw {
+    /// Damages one thing, often one that the call asks after; answers what.
+    pub fn damage(&mut self, call: &Call, world: &mut World, state: &mut State) -> Damage {
+        let any = self.random().pick(&DAMAGES).0;
+        let of_state = self.random().pick(&[Field, Rule, Description, Next]);
+        let of_call = self.random().pick(asked_after(call));
+        let damage = self.random().pick(&[any, of_state, of_call, of_call]);
+        let component = self.random().below(3);
+        match damage {
+            Field => self.unheld(state),
+            Rule => self.broken(state),
+            Description => self.other(state),
+            Next => state.next = self.other_next(state.next),
+            DeblockedLength => wrong_length(self.random(), &mut world.deblocked[component]),
+            FilteredLength => wrong_length(self.random(), &mut world.filtered[component]),
+            MarksLength => wrong_length(self.random(), &mut world.marks),
+            TableLength => wrong_length(self.random(), &mut world.table),
+            Marks => self.marked(call, &mut world.marks),
+            Table => self.stored(call, state.next, &mut world.table),
+            Samples => self.sampled(call, &mut world.deblocked),
+        }
+        damage
+    }
+
+    /// A number whose low bits may still be a sound one.
+    pub fn unheld(&mut self, state: &mut State) {
+        let high = self.random().pick(&[1 << 8, 1 << 16, 1 << 31]);
+        let switch = self.random().pick(&[2, 3, 128, 255, high, high | 1, u32::MAX]);
+        match self.random().below(4) {
+            0 => state.format = self.random().pick(&[256, state.format | high, u32::MAX]),
+            1 => state.depth = self.random().pick(&[256, state.depth | high, u32::MAX]),
+            2 => state.luma = switch,
+            _ => state.chroma = switch,
+        }
+    }
+
+    /// A number that a field holds and a rule forbids.
+    pub fn broken(&mut self, state: &mut State) {
+        let random = self.random();
+        let side = |side: u32| [0, 4, 7, side + 1, side + 4, 8191, 8196, 8200, 1 << 31, u32::MAX - 7, u32::MAX];
+        match random.below(6) {
+            0 => state.width = random.pick(&side(state.width & 0xFFFF)),
+            1 => state.height = random.pick(&side(state.height & 0xFFFF)),
+            2 => state.ctb = random.pick(&[0, 1, 8, 15, 17, 24, 48, 63, 65, 128, 272, 1 << 31, u32::MAX]),
+            3 => state.format = random.pick(&[2, 3, 128, 255]),
+            4 => state.depth = random.pick(&[0, 1, 7, 17, 32, 255]),
+            _ => (state.format, state.chroma) = (0, 1),
+        }
+    }
+
+    /// Keeps the rules and changes the meaning of all that is lent and stored.
+    pub fn other(&mut self, state: &mut State) {
+        let random = self.random();
+        let side = |side: u32| [8, side.saturating_add(8).min(8192), side.saturating_sub(8).max(8), 64, 8192];
+        match random.below(8) {
+            0 => state.width = random.pick(&side(state.width)),
+            1 => state.height = random.pick(&side(state.height)),
+            2 => (state.width, state.height) = (state.height, state.width),
+            3 => state.ctb = random.pick(&[16, 32, 64]),
+            4 => (state.format, state.chroma) = (1 - state.format.min(1), 0),
+            5 => state.luma = 1 - state.luma.min(1),
+            6 => state.chroma = if state.format == 1 { 1 - state.chroma.min(1) } else { 0 },
+            _ => state.depth = 8 + random.below(9) as u32,
+        }
+    }
+
+    fn other_next(&mut self, next: u32) -> u32 {
+        let ctus = self.picture().ctus();
+        let any = self.random().below(ctus + 1) as u32;
+        let (step, ctus) = (self.random().pick(&[next.wrapping_add(1), next.wrapping_sub(1)]), ctus as u32);
+        let high = self.random().pick(&[1 << 8, 1 << 16, 1 << 31]);
+        self.random().pick(&[0, step, any, any, ctus, ctus + 1, next | high, u32::MAX])
+    }
+
+    /// The block that the call names, if there is one, or else any.
+    fn near(&mut self, call: &Call) -> (usize, usize) {
+        let picture = self.picture();
+        let named = call.block().map(|(component, ctb)| (usize::from(in_byte(component)), ctb as usize));
+        let exists = |&(component, ctb): &(usize, usize)| component < picture.components() && ctb < picture.ctus();
+        let any = (self.random().below(picture.components()), self.random().below(picture.ctus()));
+        named.filter(exists).unwrap_or(any)
+    }
+
+    /// Small and large numbers on the block, on its neighbours, or anywhere.
+    fn marked(&mut self, call: &Call, marks: &mut [u8]) {
+        let picture = self.picture();
+        let (component, ctb) = self.near(call);
+        for _ in 0..self.random().pick(&[1, 1, 2, 5]) {
+            let neighbour = self.random().pick(&picture.ctb_and_neighbours(ctb));
+            let own = picture.mark_place(component, ctb);
+            let place = picture.mark_place(component, neighbour);
+            let any = self.random().below(picture.marks());
+            let place = self.random().pick(&[own, place, place, any]);
+            let mark = self.random().pick(&[0, 1, 2, 3, 4, 127, 128, 255]);
+            set_if_there(marks, place, mark);
+        }
+    }
+
+    /// Bytes of the block's own entry, of those to the left of the next CTU and above it, or of any.
+    fn stored(&mut self, call: &Call, next: u32, table: &mut [u8]) {
+        let picture = self.picture();
+        let reads = matches!(call, Call::Read { .. } | Call::Write { .. });
+        let ctu = if reads { (next as usize).min(picture.ctus() - 1) } else { self.near(call).1 };
+        let any = self.random().below(picture.ctus());
+        let (left, above) = (picture.left_of(ctu).unwrap_or(any), picture.above(ctu).unwrap_or(any));
+        let entries = if reads { [left, above, any] } else { [ctu, ctu, left] };
+        let entry = self.random().pick(&entries);
+        if let Some(bytes) = table.get_mut(entry * ENTRY..(entry + 1) * ENTRY) {
+            self.changed_entry(&picture, bytes);
+        }
+    }
+
+    fn changed_entry(&mut self, picture: &Picture, entry: &mut [u8]) {
+        let most = picture.largest_magnitude();
+        let random = self.random();
+        match random.below(6) {
+            0 => entry.fill_with(|| random.number() as u8),
+            1 => entry.copy_within(6 + 6 * random.below(2).., 0),
+            2 => {
+                // A set of a picture with both switches on and any depth: sound, but for another description.
+                let other =
+                    Picture { format: 1, depth: random.pick(&[8, 9, 10]), luma: true, chroma: true, ..*picture };
+                entry.copy_from_slice(&table::encode(&generate::set(random, &other)));
+            }
+            _ => entry[random.below(ENTRY)] = set_byte(random, most),
+        }
+    }
+
+    /// A sample in the block, at its border, in the ring around it, or anywhere.
+    fn sampled(&mut self, call: &Call, planes: &mut [Vec<u16>; 3]) {
+        let picture = self.picture();
+        let (component, ctb) = self.near(call);
+        let around = picture.block_and_around(component, ctb);
+        let (width, height) = (picture.plane_width(component), picture.plane_height(component));
+        let mut along = |from: usize, to: usize, all: usize| {
+            let random = self.random();
+            let (inside, any) = (from + random.below(to - from), random.below(all));
+            // One step further out there is no reason any more.
+            random.pick(&[from, to - 1, inside, inside, from.saturating_sub(1), to.min(all - 1), any])
+        };
+        let (x, y) = (along(around.left, around.right, width), along(around.top, around.bottom, height));
+        let component = if self.random().once_in(8) { self.random().below(3) } else { component };
+        let sample = above(self.random(), picture.largest_sample());
+        set_if_there(&mut planes[component], y * width + x, sample);
+    }
+}
+
+/// An earlier damage may have cut the buffer short.
+fn set_if_there<T>(buffer: &mut [T], place: usize, value: T) {
+    if let Some(there) = buffer.get_mut(place) {
+        *there = value;
+    }
+}

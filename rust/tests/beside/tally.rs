@@ -1,0 +1,132 @@
+//! What the runs did: answers by call, number and reason, damages by kind, pictures by class.
+
+use crate::call::{CALLS, Call};
+use crate::damage::{DAMAGES, Damage};
+use crate::draw::CLASSES;
+use second::Picture;
+use std::collections::{BTreeMap, BTreeSet};
+use std::fmt;
+
+/// The most reasons that a call has, and its acceptance.
+const MOST_ANSWERS: usize = 11;
+
+/// What a picture may be besides its size: CTB size, format, depth, the two switches.
+type Make = (u32, u8, u8, bool, bool);
+
+/// Three CTB sizes, nine depths, two switches in 4:2:0 and one in monochrome.
+const MAKES: usize = 3 * 9 * (4 + 2);
+
+#[derive(Clone, Debug, Default)]
+pub struct Tally {
+    pub calls: u64,
+    /// By call, then by reason; at 0 the accepted ones.
+    answers: [[u64; MOST_ANSWERS]; CALLS.len()],
+    /// By kind: how often done, and how often the call made then was refused.
+    damages: [[u64; 2]; DAMAGES.len()],
+    /// Pictures that came to their end.
+    ended: [u64; CLASSES.len()],
+    makes: BTreeSet<Make>,
+}
+
+impl Tally {
+    pub fn answered(&mut self, call: &Call, reason: usize) {
+        self.calls += 1;
+        self.answers[call.place()][reason] += 1;
+    }
+
+    pub fn damaged(&mut self, kind: Damage, refused: bool) {
+        let [done, refusals] = &mut self.damages[kind as usize];
+        *done += 1;
+        *refusals += u64::from(refused);
+    }
+
+    pub fn ended(&mut self, class: usize, picture: &Picture) {
+        let Picture { ctb, format, depth, luma, chroma, .. } = *picture;
+        self.ended[class] += 1;
+        self.makes.insert((ctb, format, depth, luma, chroma));
+    }
+
+    pub fn add(&mut self, other: &Tally) {
+        self.calls += other.calls;
+        add_each(self.answers.as_flattened_mut(), other.answers.as_flattened());
+        add_each(self.damages.as_flattened_mut(), other.damages.as_flattened());
+        add_each(&mut self.ended, &other.ended);
+        self.makes.extend(&other.makes);
+    }
+
+    /// A call's answers by number.
+    fn numbers(&self, call: usize) -> BTreeMap<u32, u64> {
+        let mut numbers = BTreeMap::from([(0, self.answers[call][0])]);
+        for (reason, (number, _)) in CALLS[call].1.iter().enumerate() {
+            *numbers.entry(*number).or_default() += self.answers[call][1 + reason];
+        }
+        numbers
+    }
+
+    /// The rarest answer, by reason: a call's name, the reason's place in its list (0 accepted), and how often.
+    pub fn rarest(&self) -> Option<(&'static str, usize, u64)> {
+        let reasons = |call: usize| (0..=CALLS[call].1.len()).map(move |reason| (call, reason));
+        let all = (0..CALLS.len()).flat_map(reasons);
+        all.map(|(call, reason)| (CALLS[call].0, reason, self.answers[call][reason])).min_by_key(|answer| answer.2)
+    }
+
+    /// How often the call of this place in [`CALLS`] was refused for the last of its reasons.
+    pub fn for_last_reason(&self, call: usize) -> u64 {
+        self.answers[call][CALLS[call].1.len()]
+    }
+
+    /// Whether pictures of every class, CTB size, format, depth and switches came to their end.
+    pub fn every_picture(&self) -> bool {
+        self.ended.iter().all(|&pictures| pictures > 0) && self.makes.len() == MAKES
+    }
+}
+
+fn add_each(sums: &mut [u64], others: &[u64]) {
+    sums.iter_mut().zip(others).for_each(|(sum, other)| *sum += other);
+}
+
+// The tables, as text.
+
+impl Tally {
+    fn by_number(&self, call: usize) -> String {
+        let spoken = |(number, times): (u32, u64)| format!("{number}: {times}");
+        self.numbers(call).into_iter().map(spoken).collect::<Vec<_>>().join("  ")
+    }
+
+    fn by_reason(&self, call: usize) -> String {
+        let spoken = |(place, (number, which)): (usize, &(u32, &str))| {
+            let times = self.answers[call][1 + place];
+            if which.is_empty() { format!("{number}: {times}") } else { format!("{number} ({which}): {times}") }
+        };
+        CALLS[call].1.iter().enumerate().map(spoken).collect::<Vec<_>>().join("  ")
+    }
+
+    fn by_damage(&self) -> String {
+        let spoken =
+            |((_, name), [done, refused]): (&(Damage, &str), [u64; 2])| format!("  {name:34} {done:8} {refused:8}\n");
+        DAMAGES.iter().zip(self.damages).map(spoken).collect()
+    }
+
+    fn by_class(&self) -> String {
+        let spoken = |(class, pictures): (&&str, u64)| format!("{class} {pictures}");
+        CLASSES.iter().zip(self.ended).map(spoken).collect::<Vec<_>>().join(", ")
+    }
+}
+
+/// One line for each call.
+fn lines(of_call: impl Fn(usize) -> String) -> String {
+    CALLS.iter().enumerate().map(|(call, (name, _))| format!("  {name:14} {}\n", of_call(call))).collect()
+}
+
+impl fmt::Display for Tally {
+    fn fmt(&self, out: &mut fmt::Formatter) -> fmt::Result {
+        writeln!(out, "{} calls; answers by number, 0 accepted:", self.calls)?;
+        write!(out, "{}", lines(|call| self.by_number(call)))?;
+        writeln!(out, "refusals by reason, in the order in which they are asked:")?;
+        write!(out, "{}", lines(|call| self.by_reason(call)))?;
+        writeln!(out, "damages of copies, and how many of the calls made on them were refused:")?;
+        write!(out, "{}", self.by_damage())?;
+        write!(out, "pictures that came to their end: {}; ", self.by_class())?;
+        writeln!(out, "{} of {MAKES} kinds of CTB size, format, depth and switches", self.makes.len())
+    }
+}

@@ -1,0 +1,148 @@
+//! The header, the documents and this package say the same: numbers, names, words, fields, and each call's reasons in
+//! their order.
+
+use std::fmt::Debug;
+use std::path::Path;
+use steamgusset::{BINS_BYTES, Block, Refusal, Rows, SET_BYTES, Sizes, State};
+
+/// A text of the project.
+fn text(file: &str) -> String {
+    let path = Path::new(env!("CARGO_MANIFEST_DIR")).join("..").join(file);
+    std::fs::read_to_string(&path).unwrap_or_else(|why| panic!("{}: {why}", path.display()))
+}
+
+fn header() -> String {
+    text("include/steamgusset.h")
+}
+
+/// What stands between two words, the first time that the first one does.
+fn between<'a>(text: &'a str, before: &str, after: &str) -> &'a str {
+    let (_, rest) = text.split_once(before).unwrap_or_else(|| panic!("no {before:?}"));
+    rest.split_once(after).unwrap_or_else(|| panic!("no {after:?} after {before:?}")).0
+}
+
+/// The header's names of the refusals and their numbers.
+fn refusals(header: &str) -> Vec<(String, u32)> {
+    let lines = between(header, "enum sg_refusal {", "}").split(',');
+    let pairs = lines.filter_map(|line| line.split_once('='));
+    pairs.map(|(name, number)| (name.trim().into(), number.trim().parse().expect("a number"))).collect()
+}
+
+/// The words that `sg_reason` has for a name.
+fn words<'a>(header: &'a str, name: &str) -> &'a str {
+    between(header, &format!("case {name}: return \""), "\";")
+}
+
+/// The lines below a table's head in docs/CALLS.md, cut into cells.
+fn rows(document: &str, head: &str) -> Vec<Vec<String>> {
+    let (_, table) = document.split_once(head).unwrap_or_else(|| panic!("no table {head:?}"));
+    let lines = table.lines().skip(2).take_while(|line| line.starts_with('|'));
+    lines.map(|line| line.trim_matches('|').split('|').map(|cell| cell.trim().into()).collect()).collect()
+}
+
+/// `NotReady` as C says it: `SG_NOT_READY`.
+fn in_c(refusal: Refusal) -> String {
+    let letters = format!("{refusal:?}");
+    letters.chars().fold("SG".into(), |name, letter| {
+        let joint = if letter.is_uppercase() { "_" } else { "" };
+        format!("{name}{joint}{}", letter.to_ascii_uppercase())
+    })
+}
+
+#[test]
+fn every_refusal_has_one_number_and_one_reason() {
+    let (header, document) = (header(), text("docs/CALLS.md"));
+    let accepted = ("SG_OK".to_string(), 0);
+    let ours = Refusal::ALL.map(|refusal| (in_c(refusal), refusal.number()));
+    assert_eq!(refusals(&header), [&[accepted], ours.as_slice()].concat());
+    for (name, refusal) in ours.iter().map(|(name, _)| name).zip(Refusal::ALL) {
+        assert_eq!(words(&header, name), refusal.reason());
+    }
+    let documented = rows(&document, "| No. | Refused because |");
+    assert_eq!(
+        documented,
+        Refusal::ALL.map(|refusal| vec![refusal.number().to_string(), refusal.reason().to_string()])
+    );
+}
+
+/// The reasons of a call in docs/CALLS.md: "1; 2 marks" is 1 and 2.
+fn documented_order(reasons: &str) -> Vec<u32> {
+    let first_word = |reason: &str| reason.split_whitespace().next().and_then(|word| word.parse().ok());
+    reasons.split(';').map(|reason| first_word(reason).unwrap_or_else(|| panic!("no number in {reasons:?}"))).collect()
+}
+
+/// The reasons that the comment above a function of the header lists.
+fn listed_order(header: &str, function: &str) -> Vec<u32> {
+    let (before, _) = header.split_once(&format!("\nuint32_t {function}(")).unwrap_or_else(|| panic!("no {function}"));
+    let (_, list) = before.rsplit_once("Refused, in this order:").expect("a list of reasons");
+    let names = list.lines().filter_map(|line| line.strip_prefix(" *   SG_")?.split_whitespace().next());
+    let number =
+        |name: &str| refusals(header).into_iter().find(|(known, _)| known[3..] == *name).map(|(_, number)| number);
+    names.map(|name| number(name).unwrap_or_else(|| panic!("{function}: no refusal SG_{name}"))).collect()
+}
+
+/// Each call of docs/CALLS.md and its reasons.
+fn documented_calls(document: &str) -> Vec<(String, Vec<u32>)> {
+    let six = rows(document, "| Call | Is lent, besides the state | Reasons, in order | An accepted call changes |");
+    let two = rows(document, "| Call | Answers | Reasons, in order |");
+    six.into_iter().chain(two).map(|row| (row[0].clone(), documented_order(&row[2]))).collect()
+}
+
+#[test]
+fn every_call_lists_its_reasons_in_the_documents_order() {
+    let (header, document) = (header(), text("docs/CALLS.md"));
+    let calls = documented_calls(&document);
+    assert_eq!(calls.len(), header.matches("\nuint32_t sg_").count());
+    for (call, order) in calls {
+        let function = format!("sg_{}", call.replace(' ', "_"));
+        assert_eq!(listed_order(&header, &function), order, "{function}");
+    }
+}
+
+#[test]
+fn every_function_that_the_document_names_is_there() {
+    let (header, document) = (header(), text("docs/CALLS.md"));
+    let [calls, picture, stage] = ["calls", "picture", "stage"].map(|module| text(&format!("rust/src/{module}.rs")));
+    let declared = |name: &str| match name.split_once("::") {
+        None => header.contains(&format!("\nuint32_t {name}(")),
+        Some(("calls", function)) => calls.contains(&format!("pub fn {function}(")),
+        Some(("Picture", method)) => picture.contains(&format!("pub fn {method}(")),
+        Some(("Stage", method)) => stage.contains(&format!("pub fn {method}(")),
+        Some(_) => false,
+    };
+    let table = rows(&document, "| Call | C | Rust, on lent slices | Rust, a picture with its buffers |");
+    assert_eq!(table.len(), documented_calls(&document).len());
+    for name in table.iter().flat_map(|row| &row[1..]).flat_map(|cell| cell.split(", ")) {
+        assert!(declared(name.trim_matches('`')), "{name}");
+    }
+}
+
+/// The names of a struct's fields in the header.
+fn fields<'a>(header: &'a str, name: &str) -> Vec<&'a str> {
+    let body = between(header, &format!("struct {name} {{"), "\n}");
+    body.lines().filter_map(|line| line.split([';', '[']).next()?.split_whitespace().nth(1)).collect()
+}
+
+/// Those of the Rust struct, in their order.
+fn fields_here(value: &impl Debug) -> Vec<String> {
+    let printed = format!("{value:#?}");
+    let own = printed.lines().filter_map(|line| line.strip_prefix("    ")).filter(|line| !line.starts_with([' ', ']']));
+    own.filter_map(|line| line.split_once(':')).map(|(name, _)| name.into()).collect()
+}
+
+#[test]
+fn what_crosses_has_the_same_fields_in_the_same_order() {
+    let header = header();
+    assert_eq!(fields(&header, "sg_state"), fields_here(&State::default()));
+    assert_eq!(fields(&header, "sg_sizes"), fields_here(&Sizes::default()));
+    assert_eq!(fields(&header, "sg_block"), fields_here(&Block::default()));
+    assert_eq!(fields(&header, "sg_rows"), fields_here(&Rows::default()));
+}
+
+#[test]
+fn the_headers_lengths_are_ours() {
+    let header = header();
+    let defined = |name: &str| between(&header, &format!("#define {name} "), "\n").parse().ok();
+    assert_eq!(defined("SG_SET_BYTES"), Some(SET_BYTES));
+    assert_eq!(defined("SG_BINS_BYTES"), Some(BINS_BYTES));
+}

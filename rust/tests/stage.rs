@@ -1,0 +1,447 @@
+//! The stage as a Rust user meets it: whole pictures on owned and on lent buffers, every refusal, and sets and refusals
+//! as numbers.
+
+use steamgusset::{
+    BINS_BYTES, Block, CtuSet, Lent, Offsets, Picture, Refusal, Rows, SET_BYTES, Sizes, Stage, State, calls,
+};
+
+/// Nine CTUs, those on the right and below cut short.
+const NINE: Picture = Picture { width: 40, height: 40, ctb: 16, format: 1, depth: 10, luma: true, chroma: true };
+
+/// Four CTUs; the last has a left and an upper neighbour.
+const FOUR: Picture = Picture { width: 32, height: 32, ..NINE };
+
+const MONOCHROME: Picture = Picture { format: 0, chroma: false, ..NINE };
+
+type Outcome = Result<(), Refusal>;
+
+// Pictures.
+
+fn band(position: u8, offsets: [i8; 4]) -> Offsets {
+    Offsets::Band { position, offsets }
+}
+
+fn edge(class: u8, offsets: [i8; 4]) -> Offsets {
+    Offsets::Edge { class, offsets }
+}
+
+/// A CTU's set; many are a neighbour's, so that merges are among them.
+fn set(picture: Picture, ctu: u32) -> CtuSet {
+    let set = match ctu % 3 {
+        0 => CtuSet { luma: band(30, [31, -31, 5, 0]), cb: edge(1, [3, 1, 0, -9]), cr: edge(1, [0, 31, -31, 0]) },
+        _ => CtuSet { luma: edge(2, [9, 4, -4, -9]), cb: band(3, [1, 2, 3, 4]), cr: band(31, [-8, 8, 0, 1]) },
+    };
+    if picture.chroma { set } else { CtuSet { luma: set.luma, ..CtuSet::OFF } }
+}
+
+/// A deblocked block of depth 10.
+fn samples(component: u32, block: Block) -> Vec<u16> {
+    let sample = |x: usize, y: usize| ((x * 397 + y * 101 + x * y * 17 + component as usize * 29) % 1024) as u16;
+    (block.y0..block.y1).flat_map(|y| (block.x0..block.x1).map(move |x| sample(x, y))).collect()
+}
+
+/// What a decoder hands to the stage, one thing at a time.
+#[derive(Clone, Copy)]
+enum Event {
+    NextSet,
+    Deblocked { component: u32, ctb: u32 },
+}
+
+/// The number of every CTB, as component and CTB.
+fn ctbs(picture: Picture) -> Vec<(u32, u32)> {
+    let ctus = picture.sizes().map_or(0, |sizes| sizes.ctus as u32);
+    (0..picture.components()).flat_map(|component| (0..ctus).map(move |ctb| (component, ctb))).collect()
+}
+
+fn sets_in_order(picture: Picture) -> Vec<Event> {
+    ctbs(picture).into_iter().filter(|&(component, _)| component == 0).map(|_| Event::NextSet).collect()
+}
+
+fn blocks_in_order(picture: Picture) -> Vec<Event> {
+    ctbs(picture).into_iter().map(|(component, ctb)| Event::Deblocked { component, ctb }).collect()
+}
+
+fn forwards(picture: Picture) -> Vec<Event> {
+    [sets_in_order(picture), blocks_in_order(picture)].concat()
+}
+
+fn backwards(picture: Picture) -> Vec<Event> {
+    forwards(picture).into_iter().rev().collect()
+}
+
+fn hand_in(stage: &mut Stage, event: Event) -> Outcome {
+    match event {
+        Event::NextSet => {
+            let set = set(stage.picture(), stage.next_ctu());
+            stage.write(&set, &mut [0; BINS_BYTES]).map(|_| ())
+        }
+        Event::Deblocked { component, ctb } => {
+            let block = stage.block(component, ctb)?;
+            stage.deliver(component, ctb, &samples(component, block))
+        }
+    }
+}
+
+fn filter_what_is_ready(stage: &mut Stage) -> Outcome {
+    for (component, ctb) in ctbs(stage.picture()) {
+        match stage.filter(component, ctb) {
+            Ok(()) | Err(Refusal::NotReady | Refusal::FilteredBefore) => {}
+            Err(refusal) => return Err(refusal),
+        }
+    }
+    Ok(())
+}
+
+fn run(stage: &mut Stage, events: &[Event]) -> Outcome {
+    for &event in events {
+        hand_in(stage, event)?;
+        filter_what_is_ready(stage)?;
+    }
+    Ok(())
+}
+
+fn is_finished(stage: &Stage) -> bool {
+    let finished = |component| stage.finished_count(component) == Ok(stage.sizes().height[component as usize]);
+    (0..stage.picture().components()).all(finished)
+}
+
+/// Buffers to lend, filled with what no call leaves.
+#[derive(Clone, Debug, PartialEq, Eq)]
+struct Buffers {
+    deblocked: [Vec<u16>; 3],
+    filtered: [Vec<u16>; 3],
+    marks: Vec<u8>,
+    table: Vec<u8>,
+}
+
+impl Buffers {
+    fn of(sizes: &Sizes) -> Buffers {
+        Buffers {
+            deblocked: sizes.samples.map(|length| vec![0xAAAA; length]),
+            filtered: sizes.samples.map(|length| vec![0xBBBB; length]),
+            marks: vec![0xCC; sizes.marks],
+            table: vec![0xDD; sizes.table],
+        }
+    }
+
+    fn lent(&mut self) -> Lent<'_> {
+        Lent {
+            deblocked: self.deblocked.each_mut().map(Vec::as_mut_slice),
+            filtered: self.filtered.each_mut().map(Vec::as_mut_slice),
+            marks: &mut self.marks,
+            table: &mut self.table,
+        }
+    }
+}
+
+#[test]
+fn owned_or_lent_and_in_either_order_the_planes_are_the_same() -> Outcome {
+    for picture in [NINE, FOUR, MONOCHROME] {
+        let mut owned = Stage::open(picture)?;
+        run(&mut owned, &forwards(picture))?;
+        assert!(is_finished(&owned));
+
+        let mut buffers = Buffers::of(&picture.sizes()?);
+        let mut lent = Stage::open_lent(picture, buffers.lent())?;
+        run(&mut lent, &backwards(picture))?;
+        assert!(is_finished(&lent));
+
+        for (component, place) in [(0, 0), (1, 1), (2, 2)] {
+            assert_eq!(owned.deblocked(component), buffers.deblocked[place]);
+            assert_eq!(owned.filtered(component), buffers.filtered[place]);
+            // The filter has changed every plane that is there.
+            let there = component < picture.components();
+            assert_eq!(owned.filtered(component) != owned.deblocked(component), there);
+        }
+    }
+    Ok(())
+}
+
+/// Flat planes, each in another band and moved by another offset.
+#[test]
+fn every_component_has_its_own_plane_and_set() -> Outcome {
+    let mut stage = Stage::open(Picture { width: 8, height: 8, depth: 8, ..NINE })?;
+    let set =
+        CtuSet { luma: band(40 / 8, [1, 0, 0, 0]), cb: band(80 / 8, [2, 0, 0, 0]), cr: band(120 / 8, [3, 0, 0, 0]) };
+    stage.write(&set, &mut [0; BINS_BYTES])?;
+    for (component, level, moved) in [(2, 120, 123), (0, 40, 41), (1, 80, 82)] {
+        let length = stage.block(component, 0)?.samples();
+        stage.deliver(component, 0, &vec![level; length])?;
+        stage.filter(component, 0)?;
+        assert_eq!(stage.deblocked(component), vec![level; length]);
+        assert_eq!(stage.finished_rows(component)?, vec![moved; length]);
+    }
+    Ok(())
+}
+
+#[test]
+fn a_stage_is_opened_again_for_the_next_picture() -> Outcome {
+    let mut stage = Stage::open(NINE)?;
+    run(&mut stage, &forwards(NINE))?;
+    let first = stage.filtered(0).to_vec();
+    stage.reopen()?;
+    assert_eq!((stage.next_ctu(), stage.finished_count(0)?), (0, 0));
+    run(&mut stage, &backwards(NINE))?;
+    assert_eq!(stage.filtered(0), first);
+    assert_eq!((stage.next_ctu(), stage.picture(), stage.sizes()), (9, NINE, NINE.sizes()?));
+    Ok(())
+}
+
+#[test]
+fn the_finished_rows_lead_the_plane() -> Outcome {
+    let mut stage = Stage::open(NINE)?;
+    assert_eq!(stage.finished_rows(2)?, [0; 0]);
+    // Without Cr's last block its neighbours wait too, and Cr is finished down to the first of them.
+    let events = forwards(NINE);
+    run(&mut stage, &events[..events.len() - 1])?;
+    assert_eq!([0, 1, 2].map(|component| stage.finished_count(component)), [Ok(40), Ok(20), Ok(8)]);
+    assert_eq!(stage.finished_rows(1)?, stage.filtered(1));
+    assert_eq!(stage.finished_rows(2)?, &stage.filtered(2)[..8 * 20]);
+    Ok(())
+}
+
+#[test]
+fn a_stage_may_go_to_another_thread() -> Outcome {
+    let mut stage = Stage::open(FOUR)?;
+    let handed = std::thread::scope(|scope| scope.spawn(|| run(&mut stage, &forwards(FOUR))).join());
+    assert!(handed.is_ok_and(|outcome| outcome.is_ok()) && is_finished(&stage));
+    Ok(())
+}
+
+// Refusals.
+
+#[test]
+fn opening_is_refused() {
+    let wrong = [
+        Picture { width: 41, ..NINE },
+        Picture { height: 8200, ..NINE },
+        Picture { ctb: 8, ..NINE },
+        Picture { format: 2, ..NINE },
+        Picture { depth: 17, ..NINE },
+        Picture { format: 0, ..NINE },
+    ];
+    for picture in wrong {
+        assert_eq!(Stage::open(picture).err(), Some(Refusal::Description));
+        assert_eq!(picture.block(3, 0), Err(Refusal::Description));
+        // The description is judged before any length.
+        let mut buffers = Buffers::of(&Sizes::default());
+        assert_eq!(Stage::open_lent(picture, buffers.lent()).err(), Some(Refusal::Description));
+    }
+}
+
+#[test]
+fn every_lent_buffer_must_have_its_length() -> Outcome {
+    let damages: [fn(&mut Buffers); 6] = [
+        |buffers| buffers.deblocked[0].truncate(7),
+        |buffers| buffers.deblocked[2].push(0),
+        |buffers| buffers.filtered[0].push(0),
+        |buffers| buffers.filtered[1].clear(),
+        |buffers| buffers.marks.truncate(26),
+        |buffers| buffers.table.push(0),
+    ];
+    for damage in damages {
+        let mut buffers = Buffers::of(&NINE.sizes()?);
+        damage(&mut buffers);
+        let before = buffers.clone();
+        assert_eq!(Stage::open_lent(NINE, buffers.lent()).err(), Some(Refusal::Length));
+        assert!(buffers == before, "a refused call changed a buffer");
+    }
+    Ok(())
+}
+
+/// Calls that are refused when CTUs 0 and 1 have their sets and luma's blocks 0 to 5 are there, of which 0 and 1 are
+/// then filtered.
+fn refused_in_the_middle(stage: &mut Stage) {
+    refused_sets(stage);
+    for (component, ctb) in [(3, 0), (256, 0), (u32::MAX, 0), (0, 9), (2, u32::MAX)] {
+        assert_eq!(stage.block(component, ctb), Err(Refusal::NoSuchBlock));
+        assert_eq!(stage.deliver(component, ctb, &[]), Err(Refusal::NoSuchBlock));
+        assert_eq!(stage.filter(component, ctb), Err(Refusal::NoSuchBlock));
+    }
+    assert_eq!(stage.finished_rows(3), Err(Refusal::NoSuchBlock));
+    assert_eq!(stage.finished_count(u32::MAX), Err(Refusal::NoSuchBlock));
+
+    assert_eq!(stage.deliver(0, 6, &[0; 127]), Err(Refusal::Length));
+    assert_eq!(stage.deliver(0, 0, &[0; 256]), Err(Refusal::DeliveredBefore));
+    assert_eq!(stage.deliver(0, 3, &[0; 256]), Err(Refusal::DeliveredBefore));
+    assert_eq!(stage.deliver(0, 6, &[1024; 128]), Err(Refusal::SampleTooLarge));
+
+    assert_eq!(stage.filter(0, 0), Err(Refusal::FilteredBefore));
+    // Luma's block 2 waits for its set alone, Cb's block 0 for blocks alone.
+    assert_eq!(stage.filter(0, 2), Err(Refusal::NotReady));
+    assert_eq!(stage.filter(1, 0), Err(Refusal::NotReady));
+}
+
+/// CTU 2 has a left neighbour, and none above.
+fn refused_sets(stage: &mut Stage) {
+    assert_eq!(stage.read(&[0], 9), Err(Refusal::CountTooLarge));
+    assert_eq!(stage.read(&[], usize::MAX), Err(Refusal::CountTooLarge));
+    assert_eq!(stage.read(&[], 0), Err(Refusal::TooEarly));
+    assert_eq!(stage.read(&[0b0100_0000], 1), Err(Refusal::TooEarly));
+    assert_eq!(stage.read(&[0b1000_0000], 2), Err(Refusal::BinsRemain));
+
+    let mut room = [0x55; BINS_BYTES];
+    let outside = [
+        CtuSet { luma: band(32, [0; 4]), ..CtuSet::OFF },
+        CtuSet { luma: band(0, [0, 0, 32, 0]), ..CtuSet::OFF },
+        CtuSet { luma: edge(0, [0, -1, 0, 0]), ..CtuSet::OFF },
+        CtuSet { cb: edge(1, [0; 4]), cr: edge(2, [0; 4]), ..CtuSet::OFF },
+    ];
+    for set in outside {
+        assert_eq!(stage.write(&set, &mut room), Err(Refusal::NoBins), "{set}");
+    }
+    let long = CtuSet { luma: band(0, [31; 4]), ..CtuSet::OFF };
+    assert_eq!(stage.write(&long, &mut room[..2]), Err(Refusal::NoRoom));
+    assert_eq!(room, [0x55; BINS_BYTES]);
+}
+
+/// What a stage shows of itself.
+fn seen(stage: &Stage) -> (u32, Vec<Vec<u16>>, Vec<Result<usize, Refusal>>) {
+    let planes = (0..3).flat_map(|component| [stage.deblocked(component), stage.filtered(component)]);
+    let counts = (0..3).map(|component| stage.finished_count(component));
+    (stage.next_ctu(), planes.map(<[u16]>::to_vec).collect(), counts.collect())
+}
+
+/// A whole picture on these buffers, with or without refused calls among the accepted ones.
+fn whole_picture(buffers: &mut Buffers, with_refused: bool) -> Outcome {
+    let mut stage = Stage::open_lent(NINE, buffers.lent())?;
+    let (sets, blocks) = (sets_in_order(NINE), blocks_in_order(NINE));
+    run(&mut stage, &[&sets[..2], &blocks[..6]].concat())?;
+    if with_refused {
+        let before = seen(&stage);
+        refused_in_the_middle(&mut stage);
+        assert!(seen(&stage) == before, "a refused call changed the stage");
+    }
+    run(&mut stage, &[&sets[2..], &blocks[6..]].concat())?;
+    if with_refused {
+        assert_eq!(stage.read(&[], 0), Err(Refusal::AllRead));
+        assert_eq!(stage.write(&CtuSet::OFF, &mut [0]), Err(Refusal::AllRead));
+    }
+    Ok(())
+}
+
+#[test]
+fn a_refused_call_changes_nothing() -> Outcome {
+    let mut with_refused = Buffers::of(&NINE.sizes()?);
+    let mut without = with_refused.clone();
+    whole_picture(&mut with_refused, true)?;
+    whole_picture(&mut without, false)?;
+    assert!(with_refused == without, "the refused calls left a trace");
+    Ok(())
+}
+
+/// A stage keeps what it stores to itself; where the caller keeps it, it can be damaged, and the calls say so.
+#[test]
+fn damaged_buffers_are_refused() -> Outcome {
+    let sizes = MONOCHROME.sizes()?;
+    let Buffers { mut deblocked, filtered, mut marks, mut table } = Buffers::of(&sizes);
+    let filtered = filtered.each_ref().map(Vec::as_slice);
+    let mut state = MONOCHROME.state();
+    calls::open(&mut state, &mut marks)?;
+    assert_eq!(calls::finished_rows(&state, 0, filtered, &marks), Ok(Rows { rows: 0, samples: 0 }));
+
+    let mut ahead = State { next: 10, ..state };
+    assert_eq!(calls::read(&mut ahead, &[0], 1, &mut table), Err(Refusal::Stored));
+    assert_eq!(calls::write(&mut ahead, &CtuSet::OFF, &mut [0], &mut table), Err(Refusal::Stored));
+    assert_eq!((ahead, table), (State { next: 10, ..state }, Buffers::of(&sizes).table));
+
+    marks[8] = 3;
+    let planes = deblocked.each_mut().map(Vec::as_mut_slice);
+    assert_eq!(calls::deliver(&state, 0, 8, &[0; 64], planes, &mut marks), Err(Refusal::Stored));
+    assert_eq!(calls::finished_rows(&state, 0, filtered, &marks), Err(Refusal::Stored));
+    assert_eq!(deblocked, Buffers::of(&sizes).deblocked);
+
+    // A state may hold numbers that no description has.
+    assert_eq!(calls::sizes(&State { format: 256, ..state }), Err(Refusal::Description));
+    assert_eq!(calls::sizes(&State { luma: 2, ..state }), Err(Refusal::Description));
+    Ok(())
+}
+
+#[test]
+fn a_refusal_is_its_number() {
+    for (refusal, number) in Refusal::ALL.into_iter().zip(1..) {
+        assert_eq!((refusal.number(), Refusal::from_number(number)), (number, Some(refusal)));
+        assert_eq!(refusal.to_string(), format!("refused {number}: {}", refusal.reason()));
+    }
+    assert!(Refusal::ALL.is_sorted());
+    assert_eq!([0, 15, u32::MAX].map(Refusal::from_number), [None; 3]);
+    assert_eq!(Refusal::TooEarly.to_string(), "refused 5: the bins end too early");
+}
+
+// Sets.
+
+/// Sets that have every value in every place of their bytes.
+fn many_sets() -> impl Iterator<Item = CtuSet> {
+    (0..=u8::MAX).flat_map(|value| {
+        let offsets = [0, 1, 64, 65].map(|more| value.wrapping_add(more).cast_signed());
+        let parts = [Offsets::Off, band(value, offsets), edge(value, offsets)];
+        let chroma = move |luma| parts.into_iter().map(move |cb| CtuSet { luma, cb, cr: parts[1] });
+        parts.into_iter().flat_map(chroma)
+    })
+}
+
+#[test]
+fn a_set_is_its_bytes() {
+    for set in many_sets() {
+        assert_eq!(CtuSet::from_bytes(&set.to_bytes()), Some(set));
+    }
+    assert_eq!(CtuSet::default(), CtuSet::OFF);
+    assert_eq!(CtuSet::OFF.to_bytes(), [0; SET_BYTES]);
+    assert_eq!(CtuSet { cr: edge(3, [7, 0, -1, -128]), ..CtuSet::OFF }.to_bytes()[12..], [2, 3, 135, 128, 127, 0]);
+}
+
+/// Bytes that encode a set encode no other; an off component has one encoding.
+#[test]
+fn other_bytes_are_no_set() {
+    for (place, value) in (0..SET_BYTES).flat_map(|place| (0..=u8::MAX).map(move |value| (place, value))) {
+        let mut bytes = [0; SET_BYTES];
+        bytes[place] = value;
+        let set = CtuSet::from_bytes(&bytes);
+        assert_eq!(set.is_some(), value == 0 || (place.is_multiple_of(6) && value <= 2));
+        assert!(set.is_none_or(|set| set.to_bytes() == bytes));
+    }
+}
+
+/// A set that has one type in luma and one in chroma, and one magnitude everywhere.
+fn uniform_set(luma: usize, chroma: usize, magnitude: i8) -> CtuSet {
+    let parts = [Offsets::Off, band(31, [-magnitude; 4]), edge(3, [magnitude, magnitude, -magnitude, -magnitude])];
+    CtuSet { luma: parts[luma], cb: parts[chroma], cr: parts[chroma] }
+}
+
+/// A stage whose next CTU has both neighbours, with sets that are off.
+fn last_of_four(depth: u8) -> Result<Stage<'static>, Refusal> {
+    let mut stage = Stage::open(Picture { depth, ..FOUR })?;
+    for _ in 0..3 {
+        stage.write(&CtuSet::OFF, &mut [0])?;
+    }
+    Ok(stage)
+}
+
+/// Writes the set in the last of four CTUs, reads it there from its bins, and answers their number.
+fn written_and_read(depth: u8, set: &CtuSet) -> Result<usize, Refusal> {
+    let mut bins = [0; BINS_BYTES];
+    let count = last_of_four(depth)?.write(set, &mut bins)?;
+    assert_eq!(last_of_four(depth)?.read(&bins[..count.div_ceil(8)], count), Ok(*set));
+    Ok(count)
+}
+
+/// Each part of the bins has its length from one value alone, so the longest are found with one type in each of luma
+/// and chroma and one magnitude everywhere.
+#[test]
+fn the_longest_bins_fit() -> Outcome {
+    let mut longest = 0;
+    for (depth, largest) in [(8, 7), (9, 15), (10, 31), (11, 31), (12, 31), (13, 31), (14, 31), (15, 31), (16, 31)] {
+        for (types, magnitude) in (0..9).flat_map(|types| (0..=largest).map(move |magnitude| (types, magnitude))) {
+            let set = uniform_set(types / 3, types % 3, magnitude);
+            longest = longest.max(written_and_read(depth, &set)?);
+        }
+        let beyond = uniform_set(1, 1, largest + 1);
+        assert_eq!(written_and_read(depth, &beyond), Err(Refusal::NoBins));
+    }
+    assert_eq!(longest, 405);
+    assert_eq!(BINS_BYTES, longest.div_ceil(8));
+    let bands = uniform_set(1, 1, 31);
+    assert_eq!(last_of_four(10)?.write(&bands, &mut [0; BINS_BYTES - 1]), Err(Refusal::NoRoom));
+    assert_eq!(last_of_four(10)?.write(&bands, &mut [0; BINS_BYTES]), Ok(longest));
+    Ok(())
+}

@@ -3,3 +3,4 @@ pub mod Holds
 pub mod Scales
 pub mod Shifts
 pub mod Unique
+pub mod Keys

@@ -1,33 +1,15 @@
--- An offset of 8 bits times 2^shift, at 16 bits; and the bands of a sample of 16 bits.
+-- An offset of 8 bits times 2^shift, at 16 bits.
 use mathlib.Core.Path.{_≡_, refl, sym, ap, ap₂, _∙_, subst}
-use mathlib.Core.Bool.{false, true, cond}
-use Prim.Native.Nat.{ℕ, zero, suc, _+_, _-_, _*_, _/_, _%_, _^_, _≤_, _<_}
-use native.Mathlib.Nat.{one-mul, mod-eq-of-lt, lt-of-le-of-lt, mul-le-mul, mul-le-mul-right, div-lt-iff-lt-mul}
+use Prim.Native.Nat.{ℕ, zero, suc, _+_, _*_, _%_, _^_, _≤_, _<_}
+use native.Mathlib.Nat.{one-mul, mod-eq-of-lt, lt-of-le-of-lt, mul-le-mul, mul-le-mul-right}
 use native.Mathlib.Omega.{arith}
-use borrow.Author.Tests.{lt-ltb, le-ltb}
 use lib.Dec.{lit<}
-use lib.Pow.{pow-mono, pow-pos}
+use lib.Pow.{pow-mono}
 use lib.IntN.{ℤ, pos, negsuc, negℤ, _*ℤ_}
 use lib.Signed.{mag}
 use mir.Syntax.{w8, w16}
 use mir.Val.{SFits, toZ, ofZ}
 use mir.Facts.{toZ-pos, toZ-ofZ, sfits-widen}
-use Rattle.standard.specs.Samples.{bandIdx}
-
--- a band of a sample of 16 bits, where it has at least 8 samples
-pub band-small : (s j : ℕ) → s ≤ 65535 → 3 ≤ j → s / 2 ^ j < 8192
-band-small s j h k = div-lt-iff-lt-mul (pow-pos j) .1 (omega (arith, pow-mono k))
-
-pub in-band : (depth position s : ℕ) → (s / 2 ^ (depth - 5) + 32 - position) % 32 < 4
-    → (s / 2 ^ (depth - 5) + 32 - position) % 32 + 1 ≡ bandIdx depth position s
-unfolding bandIdx
-in-band depth position s h = simp (lt-ltb _ 4 h)
-
-pub no-band : (depth position s : ℕ) → 4 ≤ (s / 2 ^ (depth - 5) + 32 - position) % 32 → 0 ≡ bandIdx depth position s
-unfolding bandIdx
-no-band depth position s h = simp (le-ltb _ 4 h)
-
--- ---- the product
 
 mag-mul : (z : ℤ) (k : ℕ) → mag (z *ℤ pos k) ≤ (mag z + 1) * k
 mag-mul (pos a) k = mul-le-mul-right k (omega arith)

@@ -1,7 +1,10 @@
 -- What the rows compute with: the offsets of a block, scaled, and each of them as a rise and a fall of a sample of 16 bits.
 -- The law `moved-is` of proofs/Moves says that this is the standard's clipped sum.
+use mathlib.Core.Path.{_≡_}
+use mathlib.Core.Bool.{cond}
 use mathlib.Core.List.{List, [], _∷_}
 use Prim.Native.Nat.{ℕ, _+_, _-_, _^_, _≤_, min}
+use lib.Dec.{eqb}
 use lib.IntN.{ℤ, pos, negsuc, _-ℤ_, _*ℤ_}
 use lib.ListN.{getD}
 use Rattle.rows.specs.declared.Scaled.{Scaled}
@@ -42,9 +45,26 @@ fallsOf o = record {
 unfoldable pub movesOf : ℕ → Scaled → Moves
 movesOf depth o = record { rise = risesOf (2 ^ depth - 1) o; fall = fallsOf o; top = 2 ^ depth - 1 }
 
+-- v where n is k, and 0 elsewhere
+pub record Only (n k v r : ℕ) : Type 0 where
+  pub same : n ≡ k → r ≡ v
+  pub other : (n ≡ k → ⊥) → r ≡ 0
+
 -- of four, that of index n: 0 has none
 abbrev pub picked : Four → ℕ → ℕ
 picked v n = getD (0 ∷ v .n1 ∷ v .n2 ∷ v .n3 ∷ v .n4 ∷ []) n 0
+
+-- the index of n among four keys, 1 to 4, or 0
+unfoldable pub indexOf : Four → ℕ → ℕ
+indexOf keys n = cond (eqb n (keys .n1)) 1 (cond (eqb n (keys .n2)) 2 (cond (eqb n (keys .n3)) 3 (cond (eqb n (keys .n4)) 4 0)))
+
+pub record Distinct (keys : Four) : Type 0 where
+  pub apart12 : keys .n1 ≡ keys .n2 → ⊥
+  pub apart13 : keys .n1 ≡ keys .n3 → ⊥
+  pub apart14 : keys .n1 ≡ keys .n4 → ⊥
+  pub apart23 : keys .n2 ≡ keys .n3 → ⊥
+  pub apart24 : keys .n2 ≡ keys .n4 → ⊥
+  pub apart34 : keys .n3 ≡ keys .n4 → ⊥
 
 -- a sample moved by the offset of index n
 unfoldable pub moved : Moves → ℕ → ℕ → ℕ

@@ -3,13 +3,13 @@
 // and a fall, so that a row's loop has no branch and becomes vector code.
 ghost use mathlib.Core.Path.{_≡_};
 ghost use mathlib.Core.Option.{some};
-ghost use Prim.Native.Nat.{_+_, _-_, _^_, _≤_, _<_, min};
+ghost use Prim.Native.Nat.{_+_, _-_, _%_, _^_, _≤_, _<_, min};
 ghost use lib.IntN.{pos, _+ℤ_, _-ℤ_, _*ℤ_};
 ghost use lib.ListN.{length};
-ghost use Rattle.standard.specs.Samples.{sign, edgeIdx, edgeIdxOf, bandIdx};
+ghost use Rattle.standard.specs.Samples.{sign, edgeIdx, edgeIdxOf};
 ghost use Rattle.planes.specs.Places.{Filled};
-ghost use Rattle.rows.specs.Moves.{scaledBy, held, risesOf, fallsOf, movesOf, picked, moved, Room};
-ghost use Rattle.rows.specs.Parts.{edgeRow, bandRow, copyRow, Equal, Banded};
+ghost use Rattle.rows.specs.Moves.{scaledBy, held, risesOf, fallsOf, movesOf, Only, picked, indexOf, Distinct, moved, Room};
+ghost use Rattle.rows.specs.Parts.{edgeRow, bandRow, copyRow, Equal, bandOf, bandsFrom, Banded};
 
 // ---- the offsets of a block
 
@@ -167,6 +167,34 @@ fn move_sample(m: Moves, n: u16, s: u16) -> u16
     shifted(s, pick(down, n), pick(up, n), m.top)
 }
 
+// v where n is k: a mask, where a match on a sample's band would stay a branch.
+fn only(n: u16, k: u16, v: u16) -> u16
+    ensures { λ r. ⌜ Only n k v r ⌝ }
+{
+    if n == k { v } else { 0 }
+}
+
+// Of four, that of the index that n has among the keys.
+fn chosen(keys: Four, v: Four, n: u16) -> u16
+    requires { ⌜ Distinct keys ⌝ }
+    ensures { λ r. ⌜ r ≡ picked v (indexOf keys n) ⌝ }
+{
+    only(n, keys.n1, v.n1)
+        | only(n, keys.n2, v.n2)
+        | only(n, keys.n3, v.n3)
+        | only(n, keys.n4, v.n4)
+}
+
+// A sample moved by the offset whose key is n.
+fn move_keyed(m: Moves, keys: Four, n: u16, s: u16) -> u16
+    requires { ⌜ Room m × Distinct keys ⌝ }
+    ensures { λ r. ⌜ r ≡ moved m (indexOf keys n) s ⌝ }
+{
+    let up = m.rise;
+    let down = m.fall;
+    shifted(s, chosen(keys, down, n), chosen(keys, up, n), m.top)
+}
+
 // The sign of a sample minus its neighbour.
 fn sign_of(s: u16, a: u16) -> i16
     ensures { λ r. ⌜ r ≡ sign (pos s -ℤ pos a) ⌝ }
@@ -210,15 +238,6 @@ fn edge_idx(s: u16, a: u16, b: u16) -> u16
     category(sign_of(s, a) + sign_of(s, b))
 }
 
-// The place of a sample's band among the four from the position on, modulo 32.
-fn band_idx(s: u16, position: u16, depth: u32) -> u16
-    requires { ⌜ Banded depth position ⌝ }
-    ensures { λ r. ⌜ r ≡ bandIdx depth position s ⌝ }
-{
-    let k = ((s >> (depth - 5)) + 32 - position) % 32;
-    if k < 4 { k + 1 } else { 0 }
-}
-
 fn edge_sample(m: Moves, s: u16, a: u16, b: u16) -> u16
     requires { ⌜ Room m ⌝ }
     ensures { λ r. ⌜ r ≡ moved m (edgeIdxOf s (some a) (some b)) s ⌝ }
@@ -226,11 +245,41 @@ fn edge_sample(m: Moves, s: u16, a: u16, b: u16) -> u16
     move_sample(m, edge_idx(s, a, b), s)
 }
 
-fn band_sample(m: Moves, position: u16, depth: u32, s: u16) -> u16
-    requires { ⌜ Room m × Banded depth position ⌝ }
-    ensures { λ r. ⌜ r ≡ moved m (bandIdx depth position s) s ⌝ }
+fn band_at(position: u16, j: u16) -> u16
+    requires { ⌜ (position < 32) × (j < 4) ⌝ }
+    ensures { λ r. ⌜ r ≡ (position + j) % 32 ⌝ }
 {
-    move_sample(m, band_idx(s, position, depth), s)
+    (position + j) % 32
+}
+
+// The four bands that have an offset.
+fn bands(position: u16) -> Four
+    requires { ⌜ position < 32 ⌝ }
+    ensures { λ r. ⌜ r ≡ bandsFrom position ⌝ }
+{
+    Four {
+        n1: band_at(position, 0),
+        n2: band_at(position, 1),
+        n3: band_at(position, 2),
+        n4: band_at(position, 3),
+    }
+}
+
+// The band of a sample, of 32. A number beyond the depth has one as well.
+fn band(s: u16, depth: u32) -> u16
+    requires { ⌜ (8 ≤ depth) × (depth ≤ 16) ⌝ }
+    ensures { λ r. ⌜ r ≡ bandOf depth s ⌝ }
+{
+    (s >> (depth - 5)) % 32
+}
+
+// A band is compared with the four, which are made once for a row: the difference to the position
+// would cost more.
+fn band_sample(m: Moves, four: Four, depth: u32, s: u16) -> u16
+    requires { ⌜ Room m × Distinct four × (8 ≤ depth) × (depth ≤ 16) ⌝ }
+    ensures { λ r. ⌜ r ≡ moved m (indexOf four (bandOf depth s)) s ⌝ }
+{
+    move_keyed(m, four, band(s, depth), s)
 }
 
 // ---- rows
@@ -251,9 +300,10 @@ pub fn band_row(m: Moves, position: u16, depth: u32, cur: &[u16], out: &mut [u16
     requires { ⌜ Room m × Banded depth position × (length (now cur) ≡ length (now out)) ⌝ }
     ensures { λ _. ⌜ Filled (length (now (out .entry))) (bandRow m depth position (now (cur .entry))) (now (out .entry)) (now (out .exit)) ⌝ }
 {
+    let four = bands(position);
     let mut i: usize = 0;
     while i < out.len() {
-        out[i] = band_sample(m, position, depth, cur[i]);
+        out[i] = band_sample(m, four, depth, cur[i]);
         i += 1;
     }
 }

@@ -1,5 +1,6 @@
 //! A picture with its buffers, through which the stage and the plain loops are sent in turn.
 
+use crate::plane::Plane;
 use crate::timing::{Laps, lap, timed};
 use crate::{Mistake, plain_c, plain_rust};
 use std::hint::black_box;
@@ -58,18 +59,28 @@ pub struct Course {
     parts: Vec<Part>,
     /// Random samples within the depth, block after block.
     packed: Vec<u16>,
-    deblocked: [Vec<u16>; 3],
-    filtered: [Vec<u16>; 3],
+    deblocked: [Plane; 3],
+    filtered: [Plane; 3],
     marks: Vec<u8>,
     table: Vec<u8>,
 }
 
 impl Course {
-    /// Opens a picture, writes its sets, by CTB column and row, and delivers its samples.
+    /// Opens a picture, writes its sets, by CTB column and row, and delivers its samples. Planes begin with a cache line,
+    /// as decoders allocate them.
     pub fn new(picture: Picture, set_of: impl Fn(usize, usize) -> CtuSet) -> Result<Course, Refusal> {
+        Course::at(0, picture, set_of)
+    }
+
+    /// The same with planes that begin some bytes after the start of a line.
+    pub fn at(
+        bytes_after_line: usize,
+        picture: Picture,
+        set_of: impl Fn(usize, usize) -> CtuSet,
+    ) -> Result<Course, Refusal> {
         let sizes = picture.sizes()?;
         let parts = parts(picture, sizes)?;
-        let planes = || sizes.samples.map(|length| vec![0; length]);
+        let planes = || sizes.samples.map(|length| Plane::new(length, bytes_after_line));
         let mut course = Course {
             state: picture.state(),
             sizes,
@@ -128,7 +139,7 @@ impl Course {
         self.marks.fill(0);
         laps(&self.parts, |part| {
             let samples = &self.packed[part.packed.clone()];
-            let planes = self.deblocked.each_mut().map(Vec::as_mut_slice);
+            let planes = self.deblocked.each_mut().map(|plane| &mut plane[..]);
             calls::deliver(&self.state, part.component as u32, part.ctb, samples, planes, &mut self.marks)
         })
     }
@@ -165,8 +176,8 @@ impl Course {
     }
 
     fn filter_part(&mut self, part: &Part) -> Result<(), Refusal> {
-        let planes = self.deblocked.each_ref().map(Vec::as_slice);
-        let out = self.filtered.each_mut().map(Vec::as_mut_slice);
+        let planes = self.deblocked.each_ref().map(|plane| &plane[..]);
+        let out = self.filtered.each_mut().map(|plane| &mut plane[..]);
         calls::filter(&self.state, part.component as u32, part.ctb, planes, out, &mut self.marks, &self.table)
     }
 
@@ -195,7 +206,7 @@ impl Course {
     pub fn finished_rows(&self) -> Result<Laps, Refusal> {
         lap(|| {
             for number in (0..3).filter(|&number| self.sizes.samples[number] > 0) {
-                let planes = self.filtered.each_ref().map(Vec::as_slice);
+                let planes = self.filtered.each_ref().map(|plane| &plane[..]);
                 black_box(calls::finished_rows(&self.state, number as u32, planes, &self.marks)?);
             }
             Ok(())
@@ -206,11 +217,11 @@ impl Course {
     pub fn compare(&mut self) -> Result<(), Mistake> {
         self.clear();
         self.filter(Filter::Stage)?;
-        let expected = self.filtered.clone();
+        let expected = copies(&self.filtered);
         for by in [Filter::PlainC, Filter::CheckedC, Filter::PlainRust] {
             self.clear();
             self.filter(by)?;
-            if self.filtered != expected {
+            if copies(&self.filtered) != expected {
                 return Err(Mistake::Differs(format!("the filtered samples of {by:?} are not those of the stage")));
             }
         }
@@ -260,8 +271,12 @@ fn laps<E>(parts: &[Part], mut work: impl FnMut(&Part) -> Result<(), E>) -> Resu
     rows.map(|row| timed(|| row.iter().try_for_each(&mut work))).collect()
 }
 
+fn copies(planes: &[Plane; 3]) -> [Vec<u16>; 3] {
+    planes.each_ref().map(|plane| plane.to_vec())
+}
+
 /// Puts samples in their places, and answers those that stood there.
-fn swapped(planes: &mut [Vec<u16>; 3], places: &[(usize, usize)], samples: &[u16]) -> Vec<u16> {
+fn swapped(planes: &mut [Plane; 3], places: &[(usize, usize)], samples: &[u16]) -> Vec<u16> {
     zip(places, samples).map(|(&(plane, place), &sample)| replace(&mut planes[plane][place], sample)).collect()
 }
 
@@ -341,19 +356,19 @@ mod tests {
     #[test]
     fn a_scan_is_refused_at_its_last_sample_and_leaves_the_planes() {
         for mut course in courses() {
-            let before = (course.deblocked.clone(), course.filtered.clone());
+            let before = (copies(&course.deblocked), copies(&course.filtered));
             assert!(course.scan().is_ok());
-            assert_eq!((course.deblocked, course.filtered), before);
+            assert_eq!((copies(&course.deblocked), copies(&course.filtered)), before);
         }
     }
 
     #[test]
     fn plain_deliver_takes_what_the_stage_takes() {
         for mut course in courses() {
-            let delivered = course.deblocked.clone();
+            let delivered = copies(&course.deblocked);
             course.deblocked.iter_mut().for_each(|plane| plane.fill(0));
             assert!(course.deliver_plain().is_ok());
-            assert_eq!(course.deblocked, delivered);
+            assert_eq!(copies(&course.deblocked), delivered);
         }
     }
 }

@@ -49,12 +49,12 @@ pub const fn everywhere(chroma: bool, luma: Offsets) -> CtuSet {
 
 /// Every depth, for luma alone and for a whole picture, and how the figures stand against the targets.
 pub fn depths(patience: Patience, out: &mut dyn Write) -> Done {
-    writeln!(out, "Nanoseconds a sample. {EXPLAINED} {}\n", targets_are_for())?;
+    writeln!(out, "Nanoseconds a sample. {EXPLAINED}{}\n", targets_are_for())?;
     for (name, chroma) in [("Luma alone (monochrome)", false), ("A whole picture (4:2:0)", true)] {
         let mut table = Table::new(["bits"].into_iter().chain(HEADING).chain(TARGETS));
         for depth in [8, 10, 16] {
             for kind in &KINDS {
-                let figures = Figures::of(patience, picture(64, depth, chroma), kind)?;
+                let figures = Figures::of(patience, picture(64, depth, chroma), kind, 0)?;
                 table.row([depth.to_string()].into_iter().chain(figures.cells(kind)).chain(figures.judged(kind)));
             }
         }
@@ -69,7 +69,7 @@ pub fn sizes(patience: Patience, out: &mut dyn Write) -> Done {
     let mut table = Table::new(["block"].into_iter().chain(HEADING));
     for ctb in [64, 32, 16] {
         for kind in &KINDS {
-            let figures = Figures::of(patience, picture(ctb, 10, false), kind)?;
+            let figures = Figures::of(patience, picture(ctb, 10, false), kind, 0)?;
             table.row([format!("{ctb}x{ctb}")].into_iter().chain(figures.cells(kind)));
         }
     }
@@ -77,7 +77,21 @@ pub fn sizes(patience: Patience, out: &mut dyn Write) -> Done {
     Ok(())
 }
 
-const EXPLAINED: &str = "Every block has the same set; samples are random. \"Checked C\" is plain C after a scan of the \
+/// Planes that begin within a cache line: 16 bytes after its start, where a large block of malloc begins.
+pub fn unaligned(patience: Patience, out: &mut dyn Write) -> Done {
+    writeln!(out, "Nanoseconds a sample. Planes begin 16 bytes after the start of a line, as malloc leaves them.\n")?;
+    let mut table = Table::new(["picture"].into_iter().chain(HEADING));
+    for (name, chroma) in [("luma", false), ("4:2:0", true)] {
+        for kind in &KINDS {
+            let figures = Figures::of(patience, picture(64, 10, chroma), kind, 16)?;
+            table.row([name.to_string()].into_iter().chain(figures.cells(kind)));
+        }
+    }
+    writeln!(out, "{table}")?;
+    Ok(())
+}
+
+const EXPLAINED: &str = "Every block has the same set; samples are random; planes begin with a cache line. \"Checked C\" is plain C after a scan of the \
                          block and the samples around it, which is part of every filter call of the stage. \"Rows\" is \
                          memcpy of each block's rows, block after block: what the block order alone costs. \"Memcpy\" is \
                          memcpy of the planes from end to end. The samples that stage, plain C and plain Rust leave were \
@@ -88,7 +102,7 @@ fn targets_are_for() -> String {
     if here == "x86_64" {
         return String::new();
     }
-    format!("The targets are for x86-64; this machine is {here}, so \"met\" only says how the figures stand.")
+    format!(" The targets are for x86-64; this machine is {here}, so \"met\" only says how the figures stand.")
 }
 
 const HEADING: [&str; 10] = [
@@ -116,8 +130,8 @@ struct Figures {
 }
 
 impl Figures {
-    fn of(patience: Patience, picture: Picture, kind: &Kind) -> Result<Figures, Mistake> {
-        let mut course = Course::new(picture, |_, _| everywhere(picture.chroma, kind.offsets))?;
+    fn of(patience: Patience, picture: Picture, kind: &Kind, bytes_after_line: usize) -> Result<Figures, Mistake> {
+        let mut course = Course::at(bytes_after_line, picture, |_, _| everywhere(picture.chroma, kind.offsets))?;
         course.compare()?;
         let contestants =
             [Filter::Stage, Filter::PlainC, Filter::CheckedC, Filter::PlainRust, Filter::Rows, Filter::Memcpy];

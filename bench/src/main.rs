@@ -1,4 +1,4 @@
-//! The benchmark's command: `bench/run [--quick] [filter] [sizes] [calls] [growth]`.
+//! The benchmark's command: `bench/run [--quick] [filter] [sizes] [unaligned] [calls] [growth]`.
 //!
 //! Without a name every part is run. A mistake is one sentence on the error stream; the exit status is 2 for the command
 //! line and 1 for a part that went wrong.
@@ -14,6 +14,7 @@ mod filter;
 mod growth;
 mod plain_c;
 mod plain_rust;
+mod plane;
 mod table;
 mod timing;
 
@@ -42,9 +43,14 @@ struct Part {
     run: fn(Patience, &mut dyn Write) -> Done,
 }
 
-const PARTS: [Part; 4] = [
+const PARTS: [Part; 5] = [
     Part { name: "filter", heading: "The filter call, 1920x1080 in 64x64 blocks", run: filter::depths },
     Part { name: "sizes", heading: "The filter call by block size, 1920x1080 at 10 bits", run: filter::sizes },
+    Part {
+        name: "unaligned",
+        heading: "The filter call on planes that begin within a cache line",
+        run: filter::unaligned,
+    },
     Part { name: "calls", heading: "The other calls", run: calls::all },
     Part { name: "growth", heading: "A whole picture through the calls, by picture size", run: growth::all },
 ];

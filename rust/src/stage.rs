@@ -334,27 +334,35 @@ impl Lent<'_> {
 
 /// One buffer of a stage.
 enum Buffer<'a, T> {
-    Owned(Vec<T>),
+    /// From a place in the memory on.
+    Owned(Vec<T>, usize),
     Lent(&'a mut [T]),
 }
 
+/// Bytes of a cache line. Planes that begin with one are filtered fastest.
+const LINE: usize = 64;
+
 impl<T: Copy + Default> Buffer<'_, T> {
     fn zeros(length: usize) -> Self {
-        Buffer::Owned(vec![T::default(); length])
+        let spare = LINE / size_of::<T>();
+        let mut memory = vec![T::default(); length + spare];
+        let start = memory.as_ptr().align_offset(LINE).min(spare);
+        memory.truncate(start + length);
+        Buffer::Owned(memory, start)
     }
 }
 
 impl<T> Buffer<'_, T> {
     fn as_ref(&self) -> &[T] {
         match self {
-            Buffer::Owned(buffer) => buffer,
+            Buffer::Owned(memory, start) => &memory[*start..],
             Buffer::Lent(buffer) => buffer,
         }
     }
 
     fn as_mut(&mut self) -> &mut [T] {
         match self {
-            Buffer::Owned(buffer) => buffer,
+            Buffer::Owned(memory, start) => &mut memory[*start..],
             Buffer::Lent(buffer) => buffer,
         }
     }

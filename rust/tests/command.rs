@@ -154,7 +154,10 @@ fn every_seed_agrees() {
 fn a_line_says_what_the_picture_is() {
     let (_, lines, _) = check(&[], &[vector("x_l400_10")]);
     let line = lines.lines().next().expect("a line");
-    assert!(line.contains("x_l400_10_ctu16_noisy-000.sao  88x72 4:0:0 depth 10 CTB 16, off/band/edge Y 0/8/22, "), "{line}");
+    assert!(
+        line.contains("x_l400_10_ctu16_noisy-000.sao  88x72 4:0:0 depth 10 CTB 16, off/band/edge Y 0/8/22, "),
+        "{line}"
+    );
     assert!(line.contains(" 2716 of 6336 samples changed, ") && line.contains(" ns/sample: agrees"), "{line}");
 }
 

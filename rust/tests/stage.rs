@@ -149,6 +149,11 @@ fn owned_or_lent_and_in_either_order_the_planes_are_the_same() -> Outcome {
         for (component, place) in [(0, 0), (1, 1), (2, 2)] {
             assert_eq!(owned.deblocked(component), buffers.deblocked[place]);
             assert_eq!(owned.filtered(component), buffers.filtered[place]);
+            // its own planes begin with a cache line
+            assert_eq!(
+                [owned.deblocked(component), owned.filtered(component)].map(|plane| plane.as_ptr().addr() % 64),
+                [0; 2]
+            );
             // The filter has changed every plane that is there.
             let there = component < picture.components();
             assert_eq!(owned.filtered(component) != owned.deblocked(component), there);

@@ -1,6 +1,8 @@
--- Samples ORed together: no one of them is above that, whatever the top.
+-- Samples ORed together: no one of them is above that.
 use mathlib.Core.Path.{_≡_, refl, sym, ap, ap₂, _∙_, subst}
 use mathlib.Core.Bool.{Bool, true, false}
+use mathlib.Core.Logic.{_⊎_, inl, inr}
+use mathlib.Core.List.{List}
 use Prim.Native.Nat.{ℕ, zero, suc, _+_, _-_, _≤_, _<_}
 use native.Mathlib.Nat.{le-trans}
 use native.Mathlib.Decide.{decLt}
@@ -8,7 +10,9 @@ use native.Mathlib.Numerals.{add-one}
 use native.Mathlib.Omega.{arith}
 use lib.Bits.{bitOr, or-add-and, and-le-l, and-le-r}
 use Rattle.standard.specs.Refusals.{Tells}
-use Rattle.planes.specs.Scans.{together}
+use Rattle.standard.specs.declared.Rectangle.{Rectangle}
+use Rattle.standard.specs.Samples.{at}
+use Rattle.planes.specs.Scans.{together, rowBelow, pairTogether}
 
 pub none-together : (f : ℕ → ℕ) → 0 ≡ together f 0
 unfolding together
@@ -38,12 +42,34 @@ none-above f (suc n) j h = of (decLt j n) (λ q. none-above f n j q)
     of (yes q) r = le-trans (r q) (or-left (together f n) (f n))
     of (no q) r = let e : j ≡ n = omega arith in rw e (or-right (together f n) (f n))
 
--- a row that stays within the top together
-pub row-within : (f : ℕ → ℕ) (x0 x1 top v : ℕ) → v ≡ together (λ j. f (x0 + j)) (x1 - x0) → v ≤ top → (x : ℕ) → x < x1 → x0 ≤ x → f x ≤ top
-row-within f x0 x1 top v e h x p q =
-    let s : x0 + (x - x0) ≡ x = omega arith in
-    let k : f (x0 + (x - x0)) ≤ top = omega (arith, none-above (λ j. f (x0 + j)) (x1 - x0) (x - x0) (omega arith)) in
-    subst (λ (n : ℕ). f n ≤ top) s k
+-- two rows that stay within the top together
+pub pair-within : (plane : List ℕ) (w : ℕ) (r : Rectangle) (y v top : ℕ) → v ≡ pairTogether plane w r y → v ≤ top
+    → (x : ℕ) → x < r .x1 → r .x0 ≤ x → (at plane w x y ≤ top) × (at plane w x (rowBelow r y) ≤ top)
+pair-within plane w r y v top e h x p q =
+    let s : r .x0 + (x - r .x0) ≡ x = omega arith in
+    let k : both (r .x0 + (x - r .x0)) ≤ top = omega (arith, none-above (λ j. both (r .x0 + j)) (r .x1 - r .x0) (x - r .x0) (omega arith)) in
+    let m : both x ≤ top = subst (λ (u : ℕ). both u ≤ top) s k in
+    (le-trans (or-left (at plane w x y) (at plane w x (rowBelow r y))) m, le-trans (or-right (at plane w x y) (at plane w x (rowBelow r y))) m)
+  where
+    both : ℕ → ℕ
+    both u = bitOr (at plane w u y) (at plane w u (rowBelow r y))
+
+-- and a column of them with no sample above it
+pub column-within : {a b top : ℕ} → ¬ ((top < a) ⊎ (top < b)) → (a ≤ top) × (b ≤ top)
+column-within {a} {b} {top} n =
+    let p : ¬ (top < a) = λ l. n (inl l) in
+    let q : ¬ (top < b) = λ l. n (inr l) in
+    (omega arith, omega arith)
+
+-- what holds of the rows above y, of y and of the row below it, holds of the rows above y + 2
+pub two-more : (r : Rectangle) (y : ℕ) (P : ℕ → Type 0) → ((v : ℕ) → v < y → r .y0 ≤ v → v < r .y1 → P v) → P y → P (rowBelow r y)
+    → (v : ℕ) → v < y + 2 → r .y0 ≤ v → v < r .y1 → P v
+two-more r y P above here below v h p q = of (decLt v y) (decLt y v)
+  where
+    of : Dec (v < y) → Dec (y < v) → P v
+    of (yes a) d = above v a p q
+    of (no a) (no d) = let e : y ≡ v = omega arith in subst P e here
+    of (no a) (yes d) = let e : rowBelow r y ≡ v = omega arith in subst P e below
 
 -- ---- a scan: what holds of each number below j, and at j, holds of each below j + 1
 

@@ -52,7 +52,8 @@
  * other pointer points to as many elements as its length says. The pointers without a length are never NULL.
  *
  * Lengths are counted in elements: samples of a plane, bytes of marks, table and bins. A plane has no padding: row
- * after row, each as long as the plane is wide.
+ * after row, each as long as the plane is wide. Planes that begin with a cache line, at a multiple of 64 bytes, are
+ * copied fastest.
  */
 #ifndef STEAMGUSSET_H
 #define STEAMGUSSET_H

@@ -2,9 +2,10 @@
 
 use crate::course::{Course, Filter};
 use crate::table::{Table, number, ratio};
-use crate::timing::{Patience, each, shortest};
+use crate::timing::{Best, Patience, each, race};
 use crate::{Done, Mistake};
 use std::io::Write;
+use std::ops::Range;
 use steamgusset::{CtuSet, Offsets, Picture};
 
 /// One set for a whole picture, and how many times memcpy's time the filter call may take with it.
@@ -23,7 +24,7 @@ const fn edge(name: &'static str, class: u8) -> Kind {
     Kind { name, offsets: Offsets::Edge { class, offsets: OFFSETS }, memcpy: 10.0, faster: false }
 }
 
-const KINDS: [Kind; 6] = [
+static KINDS: [Kind; 6] = [
     Kind { name: "off", offsets: Offsets::Off, memcpy: 2.5, faster: true },
     Kind { name: "band", offsets: Offsets::Band { position: 9, offsets: OFFSETS }, memcpy: 5.0, faster: true },
     edge("edge 0", 0),
@@ -52,11 +53,9 @@ pub fn depths(patience: Patience, out: &mut dyn Write) -> Done {
     writeln!(out, "Nanoseconds a sample. {EXPLAINED}{}\n", targets_are_for())?;
     for (name, chroma) in [("Luma alone (monochrome)", false), ("A whole picture (4:2:0)", true)] {
         let mut table = Table::new(["bits"].into_iter().chain(HEADING).chain(TARGETS));
-        for depth in [8, 10, 16] {
-            for kind in &KINDS {
-                let figures = Figures::of(patience, picture(64, depth, chroma), kind, 0)?;
-                table.row([depth.to_string()].into_iter().chain(figures.cells(kind)).chain(figures.judged(kind)));
-            }
+        for line in measured(patience, [8, 10, 16].map(|depth| (picture(64, depth, chroma), 0)))? {
+            let (figures, depth) = (line.figures(), line.picture.depth.to_string());
+            table.row([depth].into_iter().chain(figures.cells(line.kind)).chain(figures.judged(line.kind)));
         }
         writeln!(out, "### {name}\n\n{table}")?;
     }
@@ -67,11 +66,9 @@ pub fn depths(patience: Patience, out: &mut dyn Write) -> Done {
 pub fn sizes(patience: Patience, out: &mut dyn Write) -> Done {
     writeln!(out, "Nanoseconds a sample, luma alone (monochrome). {EXPLAINED}\n")?;
     let mut table = Table::new(["block"].into_iter().chain(HEADING));
-    for ctb in [64, 32, 16] {
-        for kind in &KINDS {
-            let figures = Figures::of(patience, picture(ctb, 10, false), kind, 0)?;
-            table.row([format!("{ctb}x{ctb}")].into_iter().chain(figures.cells(kind)));
-        }
+    for line in measured(patience, [64, 32, 16].map(|ctb| (picture(ctb, 10, false), 0)))? {
+        let ctb = line.picture.ctb;
+        table.row([format!("{ctb}x{ctb}")].into_iter().chain(line.figures().cells(line.kind)));
     }
     writeln!(out, "{table}")?;
     Ok(())
@@ -81,11 +78,9 @@ pub fn sizes(patience: Patience, out: &mut dyn Write) -> Done {
 pub fn unaligned(patience: Patience, out: &mut dyn Write) -> Done {
     writeln!(out, "Nanoseconds a sample. Planes begin 16 bytes after the start of a line, as malloc leaves them.\n")?;
     let mut table = Table::new(["picture"].into_iter().chain(HEADING));
-    for (name, chroma) in [("luma", false), ("4:2:0", true)] {
-        for kind in &KINDS {
-            let figures = Figures::of(patience, picture(64, 10, chroma), kind, 16)?;
-            table.row([name.to_string()].into_iter().chain(figures.cells(kind)));
-        }
+    for line in measured(patience, [false, true].map(|chroma| (picture(64, 10, chroma), 16)))? {
+        let name = if line.picture.chroma { "4:2:0" } else { "luma" };
+        table.row([name.to_string()].into_iter().chain(line.figures().cells(line.kind)));
     }
     writeln!(out, "{table}")?;
     Ok(())
@@ -119,6 +114,50 @@ const HEADING: [&str; 10] = [
 ];
 const TARGETS: [&str; 4] = ["of memcpy", "met", "of plain C", "met"];
 
+const CONTESTANTS: [Filter; 6] =
+    [Filter::Stage, Filter::PlainC, Filter::CheckedC, Filter::PlainRust, Filter::Rows, Filter::Memcpy];
+
+/// A line of a table, while it is measured.
+struct Line {
+    picture: Picture,
+    /// Where its planes begin.
+    bytes_after_line: usize,
+    kind: &'static Kind,
+    samples: usize,
+    best: [Best; CONTESTANTS.len()],
+}
+
+/// Every kind of set for each picture and place of its planes. The lines take turns.
+fn measured(patience: Patience, pictures: impl IntoIterator<Item = (Picture, usize)>) -> Result<Vec<Line>, Mistake> {
+    let line = |picture, bytes_after_line, kind| {
+        let best = [const { Best::new() }; CONTESTANTS.len()];
+        Line { picture, bytes_after_line, kind, samples: 0, best }
+    };
+    let kinds = |(picture, bytes)| KINDS.iter().map(move |kind| line(picture, bytes, kind));
+    let mut lines: Vec<Line> = pictures.into_iter().flat_map(kinds).collect();
+    for round in patience.rounds() {
+        lines.iter_mut().try_for_each(|line| line.run(round.clone()))?;
+    }
+    Ok(lines)
+}
+
+impl Line {
+    fn run(&mut self, repetitions: Range<usize>) -> Done {
+        let set = everywhere(self.picture.chroma, self.kind.offsets);
+        let mut course = Course::at(self.bytes_after_line, self.picture, |_, _| set)?;
+        course.compare()?;
+        self.samples = course.samples();
+        race(&mut self.best, repetitions, CONTESTANTS, |by| course.filter(by))?;
+        Ok(())
+    }
+
+    fn figures(&self) -> Figures {
+        let times = self.best.each_ref().map(|best| each(best.time(), self.samples));
+        let [stage, plain_c, checked_c, plain_rust, rows, memcpy] = times;
+        Figures { stage, plain_c, checked_c, plain_rust, rows, memcpy }
+    }
+}
+
 /// Nanoseconds a sample.
 struct Figures {
     stage: f64,
@@ -130,16 +169,6 @@ struct Figures {
 }
 
 impl Figures {
-    fn of(patience: Patience, picture: Picture, kind: &Kind, bytes_after_line: usize) -> Result<Figures, Mistake> {
-        let mut course = Course::at(bytes_after_line, picture, |_, _| everywhere(picture.chroma, kind.offsets))?;
-        course.compare()?;
-        let contestants =
-            [Filter::Stage, Filter::PlainC, Filter::CheckedC, Filter::PlainRust, Filter::Rows, Filter::Memcpy];
-        let times = shortest(patience, contestants, |by| course.filter(by))?;
-        let [stage, plain_c, checked_c, plain_rust, rows, memcpy] = times.map(|time| each(time, course.samples()));
-        Ok(Figures { stage, plain_c, checked_c, plain_rust, rows, memcpy })
-    }
-
     /// To two places, as it is shown and judged.
     fn of_memcpy(&self) -> f64 {
         to_places(self.stage / self.memcpy)

@@ -5,6 +5,10 @@ use std::ops::{Deref, DerefMut, Range};
 /// Bytes of a line.
 const LINE: usize = 64;
 
+/// Samples that are asked for at the least. So much memory comes fresh from the system, at pages of its choice, where the
+/// caches may suit it better or worse than at those of the plane before; what is not used of it costs nothing.
+const FRESH: usize = 1 << 25;
+
 /// Samples whose first stands some bytes after the start of a line.
 pub struct Plane {
     memory: Vec<u16>,
@@ -14,7 +18,7 @@ pub struct Plane {
 impl Plane {
     /// Samples of 0.
     pub fn new(length: usize, bytes_after_line: usize) -> Plane {
-        let memory = vec![0; length + (LINE + bytes_after_line) / size_of::<u16>()];
+        let memory = vec![0; FRESH.max(length + (LINE + bytes_after_line) / size_of::<u16>())];
         let start = memory.as_ptr().align_offset(LINE) + bytes_after_line / size_of::<u16>();
         Plane { memory, place: start..start + length }
     }

@@ -1,6 +1,7 @@
 //! Times: the shortest of some repetitions, and nanoseconds a thing.
 
 use std::iter::zip;
+use std::ops::Range;
 use std::time::{Duration, Instant};
 
 /// How many repetitions are made.
@@ -16,6 +17,16 @@ impl Patience {
             Patience::Quick => 6,
             Patience::Full => 40,
         }
+    }
+
+    /// The repetitions in rounds, for a table whose lines take turns, in fresh memory each time: a machine that is slow for
+    /// some seconds, or pages that suit its caches badly, spoil no line in every round.
+    pub fn rounds(self) -> impl Iterator<Item = Range<usize>> {
+        let (rounds, each) = match self {
+            Patience::Quick => (2, 3),
+            Patience::Full => (8, 5),
+        };
+        (0..rounds).map(move |round| round * each..(round + 1) * each)
     }
 }
 
@@ -46,21 +57,32 @@ impl Best {
     }
 }
 
-/// The shortest time of each contestant. They take turns within a repetition, forwards and backwards, so that none always
-/// finds the caches as the same other one left them.
+/// The shortest time of each contestant.
 pub fn shortest<C: Copy, E, const N: usize>(
     patience: Patience,
     contestants: [C; N],
-    mut pass: impl FnMut(C) -> Result<Laps, E>,
+    pass: impl FnMut(C) -> Result<Laps, E>,
 ) -> Result<[Duration; N], E> {
     let mut best = [const { Best::new() }; N];
-    for repetition in 0..patience.repetitions() {
+    race(&mut best, 0..patience.repetitions(), contestants, pass)?;
+    Ok(best.map(|best| best.time()))
+}
+
+/// Some repetitions of each contestant. They take turns within a repetition, forwards and backwards, so that none always
+/// finds the caches as the same other one left them.
+pub fn race<C: Copy, E, const N: usize>(
+    best: &mut [Best; N],
+    repetitions: Range<usize>,
+    contestants: [C; N],
+    mut pass: impl FnMut(C) -> Result<Laps, E>,
+) -> Result<(), E> {
+    for repetition in repetitions {
         for turn in 0..N {
             let turn = if repetition % 2 == 0 { turn } else { N - 1 - turn };
             best[turn].add(pass(contestants[turn])?);
         }
     }
-    Ok(best.map(|best| best.time()))
+    Ok(())
 }
 
 /// How long a piece of work takes.

@@ -8,7 +8,7 @@ use crate::sets::CtuSet;
 use std::fmt;
 
 /// The buffers of a [`Stage`] that the caller keeps, of the lengths that [`Picture::sizes`] says; an absent plane is
-/// empty. What is in them does not matter.
+/// empty. What is in them does not matter. Planes that begin with a cache line are copied fastest.
 #[derive(Debug)]
 pub struct Lent<'a> {
     /// Luma, Cb and Cr before the filter.
@@ -50,7 +50,7 @@ pub struct Stage<'a> {
 }
 
 impl Stage<'static> {
-    /// Opens a picture on buffers of its own, all 0.
+    /// Opens a picture on buffers of its own, all 0; planes begin with a cache line.
     ///
     /// # Errors
     ///
@@ -339,7 +339,7 @@ enum Buffer<'a, T> {
     Lent(&'a mut [T]),
 }
 
-/// Bytes of a cache line. Planes that begin with one are filtered fastest.
+/// Bytes of a cache line.
 const LINE: usize = 64;
 
 impl<T: Copy + Default> Buffer<'_, T> {

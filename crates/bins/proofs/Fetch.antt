@@ -1,36 +1,19 @@
 -- The window: 32 bins out of five bytes, by a shift that leaves them in the middle of a 64-bit word; and the bits past the count cleared.
 use mathlib.Core.Path.{_≡_, refl, sym, ap, ap₂, _∙_, subst}
-use mathlib.Core.Bool.{Bool, true, false}
-use mathlib.Core.List.{List, [], _∷_, _++_}
+use mathlib.Core.Bool.{Bool}
+use mathlib.Core.List.{List, [], _∷_}
 use Prim.Native.Nat.{ℕ, zero, suc, _+_, _-_, _*_, _/_, _%_, _^_, _≤_, _<_}
-use native.Mathlib.Nat.{add-zero, zero-add, add-comm, add-mul, mul-assoc, zero-mul, one-mul, sub-zero, suc-sub-suc, le-of-suc-le-suc, not-suc-le-zero, zero-lt-suc, mod-lt, mod-one, mod-eq-of-lt, lt-of-le-of-lt, div-mul-le-self, le-refl}
-use native.Mathlib.Numerals.{one-add}
+use native.Mathlib.Nat.{add-zero, add-comm, add-mul, mul-assoc, sub-zero, suc-sub-suc, le-of-suc-le-suc, not-suc-le-zero, mod-eq-of-lt, lt-of-le-of-lt, div-mul-le-self, le-refl}
 use native.Mathlib.Omega.{arith}
 use lib.Arith.{digits-lt}
-use lib.Dec.{eqb}
 use lib.ListN.{length, take, drop, getD}
-use lib.Pow.{pow-add, mod-pow-add, high, low, shl-lt}
+use lib.Pow.{pow-add, high, low, shl-lt}
 use lib.Seq.{slice-empty, take-nil, drop-nil, drop-drop, length-take-le}
 use Rattle.standard.specs.Bins.{fixedLength, bitsOf, binsOf, number}
-use Rattle.bins.proofs.Bits.{number-nil, number-lt, number-add, number-high}
+use Rattle.standard.proofs.Bits.{number-nil, number-lt, number-add, number-high, number-take, number-fixed}
+use Rattle.standard.proofs.Packed.{bits-length}
 
 -- ---- bits out of bytes
-
-digit : (d n : ℕ) (l : List Bool) → d < 2 → number (suc n) (eqb d 1 ∷ l) ≡ d * 2 ^ n + number n l
-unfolding number
-digit zero n l h = sym (ap (λ (x : ℕ). x + number n l) (zero-mul (2 ^ n)) ∙ zero-add (number n l))
-digit (suc zero) n l h = sym (ap (λ (x : ℕ). x + number n l) (one-mul (2 ^ n)))
-digit (suc (suc d)) n l h = absurd (not-suc-le-zero (le-of-suc-le-suc (le-of-suc-le-suc h)))
-
--- what is fixedLengthed is read back
-pub number-fixed : (n x : ℕ) (l : List Bool) → number n (fixedLength n x ++ l) ≡ x % 2 ^ n
-unfolding number fixedLength
-number-fixed zero x l = sym (mod-one x)
-number-fixed (suc n) x l =
-    digit (x / 2 ^ n % 2) n (fixedLength n x ++ l) (mod-lt (x / 2 ^ n) (zero-lt-suc 1))
-    ∙ ap (λ (r : ℕ). x / 2 ^ n % 2 * 2 ^ n + r) (number-fixed n x l)
-    ∙ sym (mod-pow-add x 1 n)
-    ∙ ap (λ (k : ℕ). x % 2 ^ k) (one-add n)
 
 -- the byte at q is the number at bit 8 * q
 byte-number : (bytes : List ℕ) (q : ℕ) → number 8 (drop (8 * q) (bitsOf bytes)) ≡ getD bytes q 0 % 256
@@ -114,14 +97,6 @@ window-number l n at h =
 
 -- ---- the bins past the count
 
-number-take : (n r : ℕ) (l : List Bool) → n ≤ r → number n (take r l) ≡ number n l
-unfolding number
-number-take zero r l h = refl
-number-take (suc n) zero l h = absurd (not-suc-le-zero h)
-number-take (suc n) (suc r) [] h = refl
-number-take (suc n) (suc r) (true ∷ l) h = ap (λ (k : ℕ). 2 ^ n + k) (number-take n r l (le-of-suc-le-suc h))
-number-take (suc n) (suc r) (false ∷ l) h = number-take n r l (le-of-suc-le-suc h)
-
 number-pad : (r z : ℕ) (l : List Bool) → number (r + z) (take r l) ≡ number r l * 2 ^ z
 number-pad r z l =
     number-add r z (take r l)
@@ -157,11 +132,6 @@ bins-cut s count at h g =
     ∙ ap (number 32) (sym (drop-take at count (bitsOf s) h))
 
 -- ---- how many bins there are
-
-bits-length : (s : List ℕ) → length (bitsOf s) ≡ 8 * length s
-unfolding bitsOf fixedLength
-bits-length [] = refl
-bits-length (b ∷ s) = omega (arith, bits-length s)
 
 pub bins-length : (s : List ℕ) (count : ℕ) → count ≤ 8 * length s → length (binsOf s count) ≡ count
 unfolding binsOf

@@ -1,5 +1,5 @@
 -- The laws that the functions' proofs cite, bottom to top; `Contracts` has what the public contracts say.
-pub mod Bits
+pub mod Ones
 pub mod Fetch
 pub mod Readers
 pub mod Steps

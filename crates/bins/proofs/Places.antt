@@ -7,11 +7,12 @@ use lib.Count.{leadingZeros}
 use lib.ListN.{length, drop, length-drop}
 use lib.Seq.{drop-drop}
 use Rattle.standard.specs.Bins.{binsOf, number}
+use Rattle.standard.proofs.Bits.{number-high}
 use Rattle.standard.proofs.Codes.{got}
 use Rattle.standard.proofs.Elements.{fixedCode, truncatedCode}
 use Rattle.bins.specs.declared.Cursor.{Cursor}
 use Rattle.bins.specs.Reads.{Within, binsAt, took, cut, Reads}
-use Rattle.bins.proofs.Bits.{ones, ones-le, leading-ones, number-high}
+use Rattle.bins.proofs.Ones.{ones, ones-le, leading-ones}
 use Rattle.bins.proofs.Fetch.{bins-length}
 use Rattle.bins.proofs.Readers.{truncated-full, truncated-part, truncated-cut, fixed-full, fixed-cut}
 

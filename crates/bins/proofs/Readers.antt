@@ -15,7 +15,7 @@ use Rattle.standard.proofs.Elements.{withHigh, fixedCode, after-bit, truncatedC
 use Rattle.standard.proofs.Components.{bandOf, bandCode, edgeSigned, edgeSignedCode, edgeOf, edgeCode, restCode, componentCode, crCode, chromaCode}
 use Rattle.standard.proofs.Ctu.{lumaCode, twoCode, ctuSet, fullCode}
 use Rattle.bins.specs.Forms.{edgeOfRead}
-use Rattle.bins.proofs.Bits.{ones}
+use Rattle.bins.proofs.Ones.{ones}
 
 -- ---- codes in turn
 

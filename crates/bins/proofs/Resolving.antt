@@ -8,9 +8,11 @@ use native.Mathlib.Nat.{not-suc-le-zero}
 use native.Mathlib.Omega.{arith}
 use lib.ListN.{length}
 use Rattle.standard.specs.declared.CtuSet.{CtuSet}
+use Rattle.standard.specs.declared.Near.{Near}
+use Rattle.standard.specs.declared.Near.the-variants as near
 use Rattle.standard.specs.Sets.{Switches, allOff}
 use Rattle.standard.specs.Bins.{binsOf}
-use Rattle.standard.specs.Means.{anyOn}
+use Rattle.standard.specs.Means.{setOf, anyOn}
 use Rattle.standard.proofs.Codes.{Got, got, short, then, impossible, Code, pure, readBit, bit, both, as-code}
 use Rattle.standard.proofs.Ctu.{fullCode, after-merge, mergeCode, codeBy, ctuCode}
 use Rattle.standard.proofs.Reader.{readCtu}
@@ -18,12 +20,10 @@ use Rattle.bins.specs.declared.Cursor.{Cursor}
 use Rattle.bins.specs.declared.Form.{Form}
 use Rattle.bins.specs.declared.Form.the-variants.{Left, Up, Full}
 use Rattle.bins.specs.declared.Form.the-variants as form
-use Rattle.bins.specs.declared.Near.{Near}
-use Rattle.bins.specs.declared.Near.the-variants as near
 use Rattle.bins.specs.declared.Answer.{Answer}
 use Rattle.bins.specs.declared.Answer.the-variants.{TooEarly, BinsRemain}
 use Rattle.bins.specs.Reads.{binsAt, Taken, took, cut, Reads}
-use Rattle.bins.specs.Forms.{answerOf, nearOf, isThere, copied, resolved, ReadAs, mergeRead, afterUp, formRead}
+use Rattle.bins.specs.Forms.{answerOf, isThere, copied, resolved, ReadAs, mergeRead, afterUp, formRead}
 use Rattle.bins.proofs.Fetch.{bins-length}
 use Rattle.bins.proofs.Readers.{then-as-is}
 use Rattle.bins.proofs.Places.{left-over}
@@ -180,5 +180,5 @@ pub copied-there : (o : Option CtuSet) {a : Answer} → copied o ≡ some a → 
 copied-there none e = impossible cc
 copied-there (some q) e = refl
 
-pub not-there : {X : Type 0} {n : Near} → n ≡ near.Nothing → isThere (nearOf n) ≡ true → X
-not-there e h = impossible (let g : false ≡ true = sym (ap (λ (n : Near). isThere (nearOf n)) e) ∙ h in cc)
+pub not-there : {X : Type 0} {n : Near} → n ≡ near.Nothing → isThere (setOf n) ≡ true → X
+not-there e h = impossible (let g : false ≡ true = sym (ap (λ (n : Near). isThere (setOf n)) e) ∙ h in cc)

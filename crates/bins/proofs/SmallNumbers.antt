@@ -1,23 +1,15 @@
 -- Offsets as signed bytes: what is small is read back as it was put in.
 use mathlib.Core.Path.{_≡_, refl, ap}
-use Prim.Native.Nat.{ℕ, zero, suc, _<_, _≤_, _^_}
+use Prim.Native.Nat.{ℕ, zero, suc, _<_, _≤_}
 use native.Mathlib.Omega.{arith}
 use lib.IntN.{ℤ, pos, negsuc, natAbs, negℤ, _-ℤ_}
 use borrow.Author.Tests.{lt-ltb}
 use lib.Signed.{mag}
-use mir.Syntax.{Width, w8, w32}
-use mir.Val.{SFits, ofZ, toZ, hbits}
-use mir.ValLaws.{toZ-ofZ, toZ-pos}
+use mir.Syntax.{w8, w32}
+use mir.Val.{toZ}
+use mir.ValLaws.{toZ-pos}
 use Rattle.standard.proofs.Elements.{Four}
-
-abbrev pub back : Width → ℤ → ℤ
-back w z = toZ w (ofZ w z)
-
-pub fits : (w : Width) (z : ℤ) → mag z < 2 ^ hbits w → SFits w z
-fits w z h = record { sfits = h }
-
-pub backed : (w : Width) (z : ℤ) → mag z < 2 ^ hbits w → back w z ≡ z
-backed w z h = toZ-ofZ w z (fits w z h)
+use Rattle.standard.proofs.Signed.{back, backed}
 
 mag-size : (z : ℤ) → mag z ≤ natAbs z
 mag-size (pos n) = omega arith

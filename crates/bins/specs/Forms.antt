@@ -14,8 +14,6 @@ use Rattle.standard.proofs.Reader.{readCtu}
 use Rattle.bins.specs.declared.Form.{Form}
 use Rattle.bins.specs.declared.Form.the-variants.{Left, Up, Full}
 use Rattle.bins.specs.declared.Form.the-variants as form
-use Rattle.bins.specs.declared.Near.{Near}
-use Rattle.bins.specs.declared.Near.the-variants as near
 use Rattle.bins.specs.declared.Answer.{Answer}
 use Rattle.bins.specs.declared.Answer.the-variants.{Set, TooEarly, BinsRemain}
 
@@ -25,10 +23,6 @@ abbrev pub answerOf : Got CtuSet → Answer
 answerOf (got q []) = Set q
 answerOf (got q (b ∷ more)) = BinsRemain
 answerOf short = TooEarly
-
-abbrev pub nearOf : Near → Option CtuSet
-nearOf near.Nothing = none
-nearOf (near.Set q) = some q
 
 -- ---- a form
 

@@ -1,6 +1,7 @@
 // Reads a CTU's parameters from packed bins: bits from the most significant bit of the first byte on, of which the
 // first `count` are bins. What is read is what the standard's reader says of those bins: no more and no less.
 use standard::CtuSet;
+use standard::Near;
 use standard::Offsets;
 use standard::Picture;
 ghost use mathlib.Core.Path.{_≡_};
@@ -10,8 +11,8 @@ ghost use Prim.Native.Nat.{_*_, _≤_, _<_};
 ghost use lib.IntN.{pos, negℤ};
 ghost use lib.ListN.{length, drop, getD};
 ghost use Rattle.standard.specs.Picture.{Rules};
-ghost use Rattle.standard.specs.Sets.{switchesOf, largest, most};
-ghost use Rattle.standard.specs.Means.{anyOn};
+ghost use Rattle.standard.specs.Sets.{switchesOf, most};
+ghost use Rattle.standard.specs.Means.{setOf, anyOn};
 ghost use Rattle.standard.specs.Bins.{bitsOf, binsOf, number};
 ghost use Rattle.standard.proofs.Codes.{bit};
 ghost use Rattle.standard.proofs.Elements.{fixedCode, truncatedCode, magnitudesCode, signCode, signsCode};
@@ -20,7 +21,7 @@ ghost use Rattle.standard.proofs.Ctu.{lumaCode, twoCode, fullCode};
 ghost use Rattle.standard.proofs.Reader.{readCtu};
 ghost use Rattle.bins.specs.Reads.{Within, binsAt, Reads};
 ghost use Rattle.bins.specs.Views.{flagTaken, numberTaken, four, fourTaken, offsetTaken, signedTaken, componentTaken, chromaTaken, setTaken, formTaken};
-ghost use Rattle.bins.specs.Forms.{mergeRead, formRead, edgeOfRead, nearOf, isThere, copied, answerOf, ReadAs};
+ghost use Rattle.bins.specs.Forms.{mergeRead, formRead, edgeOfRead, isThere, copied, answerOf, ReadAs};
 
 // A place in the bins, and how many of them there are.
 struct Cursor {
@@ -99,12 +100,6 @@ pub enum Form {
     BinsRemain,
 }
 
-// A neighbour that a merge may reach, with its set; or there is none.
-pub enum Near {
-    Nothing,
-    Set(CtuSet),
-}
-
 // The set that a CTU's bins mean; or what is wrong with them.
 pub enum Answer {
     Set(CtuSet),
@@ -148,27 +143,14 @@ fn offset(v: u32, negative: bool) -> i8
     if negative { (0 - n) as i8 } else { n as i8 }
 }
 
-// M at a depth: from 10 bits on it grows no more.
-fn largest_at(depth: u8) -> u32
-    requires { ⌜ 8 ≤ depth ⌝ }
-    ensures { λ r. ⌜ r ≡ largest depth ⌝ }
-{
-    if depth < 10 {
-        return (1u32 << (depth as u32 - 5)) - 1;
-    }
-    31
-}
-
-// M of each component: one depth serves all three.
+// M of each component.
 fn largest_of(p: Picture) -> Largest
-    requires { ⌜ Rules p ⌝ }
     ensures { λ r. ⌜ (r .luma ≡ most (switchesOf p) 0) × (r .cb ≡ most (switchesOf p) 1) × (r .cr ≡ most (switchesOf p) 2) ⌝ }
 {
-    let m = largest_at(p.depth);
     Largest {
-        luma: m,
-        cb: m,
-        cr: m,
+        luma: geometry::most_of(p, 0),
+        cb: geometry::most_of(p, 1),
+        cr: geometry::most_of(p, 2),
     }
 }
 
@@ -525,13 +507,6 @@ impl Cursor {
     }
 }
 
-// Whether a CTU has bins at all.
-fn any_on(p: Picture) -> bool
-    ensures { λ r. ⌜ r ≡ anyOn (switchesOf p) ⌝ }
-{
-    if p.luma { true } else { p.chroma }
-}
-
 // The form of the bins of a CTU that has some.
 fn coded_form(p: Picture, has_left: bool, has_up: bool, bytes: &[u8], count: usize) -> Form
     requires { ⌜ Rules p ⌝ }
@@ -555,7 +530,7 @@ pub fn read_form(p: Picture, has_left: bool, has_up: bool, bytes: &[u8], count: 
     requires { ⌜ count ≤ 8 * length (now bytes) ⌝ }
     ensures { λ r. ⌜ ReadAs (switchesOf p) «has_left» «has_up» (binsOf (now (bytes .entry)) count) r ⌝ }
 {
-    if any_on(p) {
+    if geometry::any_on(p) {
         return coded_form(p, has_left, has_up, bytes, count);
     }
     if count > 0 {
@@ -569,7 +544,7 @@ pub fn read_form(p: Picture, has_left: bool, has_up: bool, bytes: &[u8], count: 
 }
 
 fn is_there(n: Near) -> bool
-    ensures { λ r. ⌜ r ≡ isThere (nearOf n) ⌝ }
+    ensures { λ r. ⌜ r ≡ isThere (setOf n) ⌝ }
 {
     match n {
         Near::Nothing => false,
@@ -579,8 +554,8 @@ fn is_there(n: Near) -> bool
 
 // The set that a merge copies.
 fn merged(n: Near) -> Answer
-    requires { ⌜ isThere (nearOf n) ≡ true ⌝ }
-    ensures { λ r. ⌜ some r ≡ copied (nearOf n) ⌝ }
+    requires { ⌜ isThere (setOf n) ≡ true ⌝ }
+    ensures { λ r. ⌜ some r ≡ copied (setOf n) ⌝ }
 {
     match n {
         Near::Nothing => Answer::TooEarly,
@@ -592,7 +567,7 @@ fn merged(n: Near) -> Answer
 pub fn read_ctu(p: Picture, left: Near, up: Near, bytes: &[u8], count: usize) -> Answer
     requires { ⌜ Rules p ⌝ }
     requires { ⌜ count ≤ 8 * length (now bytes) ⌝ }
-    ensures { λ r. ⌜ r ≡ answerOf (readCtu (switchesOf p) (nearOf left) (nearOf up) (binsOf (now (bytes .entry)) count)) ⌝ }
+    ensures { λ r. ⌜ r ≡ answerOf (readCtu (switchesOf p) (setOf left) (setOf up) (binsOf (now (bytes .entry)) count)) ⌝ }
 {
     let form = read_form(p, is_there(left), is_there(up), bytes, count);
     match form {

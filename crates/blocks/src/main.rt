@@ -206,7 +206,7 @@ fn filter(l: Layout, set: Offsets, r: Rectangle, plane: &[u16], out: &mut [u16])
     if out.len() != n {
         return false;
     }
-    let top = geometry::top_of(l.depth);
+    let top = planes::top_of(l.depth);
     if planes::some_above(plane, l.width, l.height, r, top) {
         return false;
     }
@@ -270,7 +270,7 @@ fn filter_and_print(record: &[u8; 24], plane: &mut [u16], out: &mut [u16]) {
         print_word(b"no block");
         return;
     }
-    fill(record, geometry::top_of(l.depth), plane);
+    fill(record, planes::top_of(l.depth), plane);
     let is_filtered = filter(l, set, r, plane, out);
     if is_filtered {
         print(out, record[14] != 0);

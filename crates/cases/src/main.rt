@@ -23,6 +23,7 @@ use records::pair;
 use records::print_word;
 use records::wide;
 use standard::CtuSet;
+use standard::Near;
 use standard::Picture;
 ghost use Prim.Native.Nat.{_<_};
 ghost use Rattle.standard.specs.Picture.{Rules};
@@ -94,19 +95,11 @@ fn is_bad(n: Neighbour) -> bool {
     }
 }
 
-fn near_to_read(n: Neighbour) -> bins::Near {
+fn near(n: Neighbour) -> Near {
     match n {
-        Neighbour::Nothing => bins::Near::Nothing,
-        Neighbour::Set(q) => bins::Near::Set(q),
-        Neighbour::Bad => bins::Near::Nothing,
-    }
-}
-
-fn near_to_write(n: Neighbour) -> writer::Near {
-    match n {
-        Neighbour::Nothing => writer::Near::Nothing,
-        Neighbour::Set(q) => writer::Near::Set(q),
-        Neighbour::Bad => writer::Near::Nothing,
+        Neighbour::Nothing => Near::Nothing,
+        Neighbour::Set(q) => Near::Set(q),
+        Neighbour::Bad => Near::Nothing,
     }
 }
 
@@ -121,7 +114,7 @@ fn read(p: Picture, left: Neighbour, up: Neighbour, bytes: &[u8], count: usize)
         print_word(b"count");
         return;
     }
-    match bins::read_ctu(p, near_to_read(left), near_to_read(up), bytes, count) {
+    match bins::read_ctu(p, near(left), near(up), bytes, count) {
         bins::Answer::Set(q) => print_set(q),
         bins::Answer::TooEarly => print_word(b"early"),
         bins::Answer::BinsRemain => print_word(b"remain"),
@@ -132,7 +125,7 @@ fn read(p: Picture, left: Neighbour, up: Neighbour, bytes: &[u8], count: usize)
 fn write(p: Picture, left: Neighbour, up: Neighbour, q: CtuSet, room: &mut [u8])
     requires { ⌜ Rules p ⌝ }
 {
-    match writer::write_set(p, near_to_write(left), near_to_write(up), q, room) {
+    match writer::write_set(p, near(left), near(up), q, room) {
         writer::Wrote::Bins(n) => {
             io::print_decimal(1, n as u64);
         }

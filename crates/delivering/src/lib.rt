@@ -7,9 +7,9 @@ use standard::State;
 ghost use mathlib.Core.Path.{_≡_};
 ghost use Prim.Native.Nat.{_*_, _<_};
 ghost use lib.ListN.{length};
-ghost use Rattle.standard.specs.Picture.{Rules, components, planeWidth, planeHeight, ctuCount, rectangle};
+ghost use Rattle.standard.specs.Picture.{Rules, planeWidth, planeHeight, ctuCount, rectangle};
 ghost use Rattle.standard.specs.Refusals.{Tells};
-ghost use Rattle.standard.specs.Reasons.{MarksFit, markOf, area, DeliveredSampleTooLarge, deliverReasons};
+ghost use Rattle.standard.specs.Reasons.{area, DeliveredSampleTooLarge, deliverReasons};
 ghost use Rattle.standard.specs.Calls.{Written, delivered};
 ghost use Rattle.standard.specs.Contracts.{Judged, DeliverEnsures};
 
@@ -26,20 +26,12 @@ fn samples_fit(p: Picture, component: u8, ctb: u32, samples: &[u16]) -> bool
     true
 }
 
-fn mark_of(p: Picture, component: u8, ctb: u32, marks: &[u8]) -> u8
-    requires { ⌜ Rules p × MarksFit p (now marks) × (component < components p) × (ctb < ctuCount p) ⌝ }
-    ensures { λ m. ⌜ m ≡ markOf p (now (marks .entry)) component ctb ⌝ }
-{
-    let i = geometry::mark_place(p, component, ctb);
-    marks[i]
-}
-
 fn sample_too_large(state: State, component: u8, samples: &[u16]) -> bool
     requires { ⌜ Rules (state .picture) ⌝ }
     ensures { λ r. ⌜ Tells (DeliveredSampleTooLarge state component (now (samples .entry))) r ⌝ }
 {
     let depth = geometry::depth_of(state.picture, component);
-    planes::sample_above(samples, geometry::top_of(depth))
+    planes::sample_above(samples, planes::top_of(depth))
 }
 
 // The reasons in document 01's order: the first that holds is the answer.
@@ -75,7 +67,7 @@ fn deliver_answer(
     if !samples_fit(p, component, ctb, samples) {
         return Answer::Refused(Refusal::Length);
     }
-    let m = mark_of(p, component, ctb, marks);
+    let m = lent::mark_of(p, component, ctb, marks);
     if m > 2 {
         return Answer::Refused(Refusal::Stored);
     }

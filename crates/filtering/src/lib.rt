@@ -16,7 +16,7 @@ ghost use Rattle.standard.specs.Picture.{Rules, planeWidth, planeHeight, ctuCou
 ghost use Rattle.standard.specs.Sets.{componentOf};
 ghost use Rattle.standard.specs.Samples.{layoutOf, sample};
 ghost use Rattle.standard.specs.Refusals.{Tells};
-ghost use Rattle.standard.specs.Reasons.{PlanesFit, MarksFit, TableFits, planeOf, markOf, SetIsMissing, DeblockedSampleTooLarge, filterReasons};
+ghost use Rattle.standard.specs.Reasons.{PlanesFit, MarksFit, TableFits, planeOf, SetIsMissing, DeblockedSampleTooLarge, filterReasons};
 ghost use Rattle.standard.specs.Calls.{Written};
 ghost use Rattle.standard.specs.Contracts.{Judged, FilterEnsures};
 ghost use Rattle.geometry.specs.Geometry.{around};
@@ -100,14 +100,6 @@ fn waited_outside(p: Picture, component: u8, ctb: u32, marks: &[u8], low: u8, hi
     mark_outside(marks, from, w, h, waited_for(p, ctb), low, high)
 }
 
-fn mark_of(p: Picture, component: u8, ctb: u32, marks: &[u8]) -> u8
-    requires { ⌜ Named p component ctb × MarksFit p (now marks) ⌝ }
-    ensures { λ m. ⌜ m ≡ markOf p (now (marks .entry)) component ctb ⌝ }
-{
-    let i = geometry::mark_place(p, component, ctb);
-    marks[i]
-}
-
 fn set_is_missing(state: State, ctb: u32) -> bool
     ensures { λ r. ⌜ Tells (SetIsMissing state ctb) r ⌝ }
 {
@@ -148,7 +140,7 @@ fn sample_too_large(state: State, component: u8, ctb: u32, plane: &[u16]) -> boo
     let h = geometry::plane_height(p, component);
     let r = geometry::ctb_rectangle(p, component, ctb);
     let g = geometry::grown_rectangle(p, component, r);
-    let top = geometry::top_of(geometry::depth_of(p, component));
+    let top = planes::top_of(geometry::depth_of(p, component));
     planes::some_above(plane, w, h, g, top)
 }
 
@@ -218,7 +210,7 @@ fn marks_answer(state: State, component: u8, ctb: u32, marks: &[u8]) -> Answer
     if waited_outside(p, component, ctb, marks, 0, 2) {
         return Answer::Refused(Refusal::Stored);
     }
-    if mark_of(p, component, ctb, marks) == 2 {
+    if lent::mark_of(p, component, ctb, marks) == 2 {
         return Answer::Refused(Refusal::FilteredBefore);
     }
     if not_ready(state, component, ctb, marks) {

@@ -1,10 +1,7 @@
--- Counts with their bounds, quotients, and powers of two by a shift.
+-- Counts with their bounds, and quotients.
 use mathlib.Core.Path.{_≡_, sym, ap, _∙_}
-use Prim.Native.Nat.{ℕ, _*_, _/_, _%_, _^_, _≤_, _<_}
-use native.Mathlib.Nat.{one-mul, mod-eq-of-lt, lt-of-le-of-lt}
+use Prim.Native.Nat.{ℕ, _/_, _≤_, _<_}
 use native.Mathlib.Omega.{arith}
-use lib.Dec.{lit<}
-use lib.Pow.{pow-mono}
 use Rattle.standard.specs.declared.Picture.{Picture}
 use Rattle.standard.specs.Picture.{components}
 use Rattle.geometry.specs.Geometry.{Counted}
@@ -18,7 +15,3 @@ one-count a b = a .is ∙ sym (b .is)
 -- by an equal divisor
 pub over : {r a d : ℕ} (n : ℕ) → r ≡ n / a → a ≡ d → r ≡ n / d
 over n e f = e ∙ ap (λ (m : ℕ). n / m) f
-
--- 1 shifted by d in 32 bits
-pub shifted : (d : ℕ) → d ≤ 16 → (1 * 2 ^ d) % 4294967296 ≡ 2 ^ d
-shifted d h = rw one-mul (mod-eq-of-lt (lt-of-le-of-lt (pow-mono h) (lit< tt)))

@@ -4,7 +4,8 @@ ghost use mathlib.Core.Logic.{_⊎_};
 ghost use Prim.Native.Nat.{_+_, _-_, _*_, _/_, _^_, _≤_, _<_, min};
 ghost use Rattle.standard.specs.Picture.{Side, Rules, depthOf, components, planeWidth, planeHeight, samplesOf};
 ghost use Rattle.standard.specs.Picture.{ctbWidth, ctbHeight, columns, rows, ctuCount, rectangle, grown, address, leftOf, aboveOf};
-ghost use Rattle.standard.specs.Sets.{largest};
+ghost use Rattle.standard.specs.Sets.{largest, most, switchesOf};
+ghost use Rattle.standard.specs.Means.{anyOn};
 ghost use Rattle.standard.specs.Samples.{shiftOf, layoutOf};
 ghost use Rattle.standard.specs.Table.{entrySize};
 ghost use Rattle.standard.specs.Reasons.{markCount, markPlace};
@@ -79,6 +80,13 @@ pub fn is_described(p: Picture) -> bool
     true
 }
 
+// Whether a CTU of the picture has bins.
+pub fn any_on(p: Picture) -> bool
+    ensures { λ r. ⌜ r ≡ anyOn (switchesOf p) ⌝ }
+{
+    if p.luma { true } else { p.chroma }
+}
+
 // ---- bit depth
 
 pub fn depth_of(p: Picture, component: u8) -> u32
@@ -101,19 +109,26 @@ fn shift_of(p: Picture, component: u8) -> u32
     depth - coded_depth(depth)
 }
 
-pub fn largest_magnitude(depth: u32) -> u32
-    requires { ⌜ (8 ≤ depth) × (depth ≤ 16) ⌝ }
+// M: 2 to the power of ( Min( bitDepth, 10 ) - 5 ), minus 1 (9.3.3); below 5 bits it is 0.
+fn largest_magnitude(depth: u32) -> u32
     ensures { λ r. ⌜ r ≡ largest depth ⌝ }
 {
-    (1u32 << (coded_depth(depth) - 5)) - 1
+    match depth {
+        0..=5 => 0,
+        6 => 1,
+        7 => 3,
+        8 => 7,
+        9 => 15,
+        _ => 31,
+    }
 }
 
-// The largest sample.
-pub fn top_of(depth: u32) -> u16
-    requires { ⌜ depth ≤ 16 ⌝ }
-    ensures { λ r. ⌜ r ≡ 2 ^ depth - 1 ⌝ }
+// M of a component.
+pub fn most_of(p: Picture, component: u8) -> u32
+    ensures { λ r. ⌜ r ≡ most (switchesOf p) component ⌝ }
+    ensures { λ r. ⌜ r < 32 ⌝ }
 {
-    ((1u32 << depth) - 1) as u16
+    largest_magnitude(depth_of(p, component))
 }
 
 // ---- components and planes

@@ -1,11 +1,14 @@
-// What is lent: whether planes, marks and table have their right lengths, and whether a CTU is due.
+// What is lent: whether planes, marks and table have their right lengths, a mark of them, and whether
+// a CTU is due.
 use standard::Answer;
 use standard::Picture;
 use standard::Refusal;
 use standard::State;
-ghost use Rattle.standard.specs.Picture.{Rules};
+ghost use mathlib.Core.Path.{_≡_};
+ghost use Prim.Native.Nat.{_<_};
+ghost use Rattle.standard.specs.Picture.{Rules, components, ctuCount};
 ghost use Rattle.standard.specs.Refusals.{Tells};
-ghost use Rattle.standard.specs.Reasons.{PlanesFit, MarksFit, TableFits};
+ghost use Rattle.standard.specs.Reasons.{PlanesFit, MarksFit, TableFits, markOf};
 ghost use Rattle.standard.specs.Contracts.{Judged};
 ghost use Rattle.lent.specs.Due.{dueReasons};
 
@@ -43,6 +46,15 @@ pub fn table_fits(p: Picture, table: &[u8]) -> bool
         return false;
     }
     true
+}
+
+// The mark of a CTB.
+pub fn mark_of(p: Picture, component: u8, ctb: u32, marks: &[u8]) -> u8
+    requires { ⌜ Rules p × MarksFit p (now marks) × (component < components p) × (ctb < ctuCount p) ⌝ }
+    ensures { λ m. ⌜ m ≡ markOf p (now (marks .entry)) component ctb ⌝ }
+{
+    let i = geometry::mark_place(p, component, ctb);
+    marks[i]
 }
 
 // The reasons that come first in reading and in writing, in document 01's order.

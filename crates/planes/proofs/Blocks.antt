@@ -1,30 +1,21 @@
 -- The algebra of `Written` over rectangles, point by point: nothing written, one rectangle after another, a row or some columns more,
--- another name for the same samples, a lent part of a row; and what is written determines the plane.
+-- another name for the same samples, a lent part of a row.
 use mathlib.Core.Path.{_≡_, refl, sym, ap, ap₂, _∙_, subst}
 use mathlib.Core.List.{List, [], _∷_, _++_}
 use mathlib.Core.Logic.{_⊎_, inl, inr, ⊎-elim}
-use Prim.Native.Nat.{ℕ, zero, suc, _+_, _-_, _*_, _/_, _%_, _≤_, _<_}
+use Prim.Native.Nat.{ℕ, zero, suc, _+_, _-_, _*_, _≤_, _<_}
 use native.Mathlib.Nat.{not-suc-le-zero, le-of-suc-le-suc}
-use native.Mathlib.Decide.{decLe, decLt}
+use native.Mathlib.Decide.{decLt}
 use native.Mathlib.Omega.{arith}
 use lib.ListN.{length, getD, take, drop, length-drop}
-use lib.Seq.{ext-getD, length-take-le, getD-append-add, getD-take, getD-drop}
+use lib.Seq.{length-take-le, getD-append-add, getD-take, getD-drop}
 use borrow.Rule.Slice.PartMut.{midOf, postOf, putMid, same-len-mid}
 use Rattle.standard.specs.declared.Rectangle.{Rectangle}
 use Rattle.standard.specs.Picture.{Inside}
 use Rattle.standard.specs.Samples.{at}
 use Rattle.standard.specs.Calls.{Written}
+use Rattle.standard.proofs.Rasters.{index-lt, same-place, inside?}
 use Rattle.planes.specs.Places.{block, row, Filled}
-use Rattle.planes.proofs.Raster.{index-lt, same-place, column-lt, row-lt, place-of}
-
--- two decisions make one
-both? : {A B : Type 0} → Dec A → Dec B → Dec (A × B)
-both? (yes a) (yes b) = yes (a, b)
-both? (yes a) (no n) = no (λ p. n (p .1))
-both? (no n) b = no (λ p. n (p .0))
-
-pub inside? : (r : Rectangle) (x y : ℕ) → Dec (Inside r x y)
-inside? r x y = both? (both? (decLe (r .x0) x) (decLt x (r .x1))) (both? (decLe (r .y0) y) (decLt y (r .y1)))
 
 module _ {w h : ℕ} {f : ℕ → ℕ → ℕ} where
   -- ---- nothing written
@@ -97,22 +88,6 @@ module _ {w h : ℕ} {f : ℕ → ℕ → ℕ} where
       go x y k (yes l) = inl (omega arith)
       go x y k (no n) = inr (omega arith)
 
--- ---- what is written determines the plane
-
--- a plane is determined by its samples
-pub same-plane : (w h : ℕ) (a b : List ℕ) → length a ≡ w * h → length b ≡ w * h → ((x y : ℕ) → x < w → y < h → at a w x y ≡ at b w x y) → a ≡ b
-same-plane w h a b la lb e =
-    ext-getD 0 a b (la ∙ sym lb)
-    (λ i p. let q : i < w * h = rw (← la) p in
-    subst (λ (n : ℕ). getD a n 0 ≡ getD b n 0) (place-of w i) (e (i % w) (i / w) (column-lt w h i q) (row-lt w h i q)))
-
-pub one-result : {w h : ℕ} {r : Rectangle} {f : ℕ → ℕ → ℕ} {o a b : List ℕ} → Written w h r f o a → Written w h r f o b → length o ≡ w * h → a ≡ b
-one-result {w} {h} {r} {f} {o} {a} {b} k m lo = same-plane w h a b (k .long ∙ lo) (m .long ∙ lo) (λ x y p q. go x y p q (inside? r x y))
-  where
-    go : (x y : ℕ) → x < w → y < h → Dec (Inside r x y) → at a w x y ≡ at b w x y
-    go x y p q (yes t) = k .inside x y p q t ∙ sym (m .inside x y p q t)
-    go x y p q (no n) = k .outside x y p q n ∙ sym (m .outside x y p q n)
-
 -- ---- a part of a row, lent and written, is a rectangle of one row written
 
 left-of : (xs ys : List ℕ) (i : ℕ) → i < length xs → getD (xs ++ ys) i 0 ≡ getD xs i 0
@@ -150,7 +125,7 @@ module _ (a k : ℕ) (xs ys : List ℕ) (fit : a + k ≤ length xs) (long : leng
 -- the part from i on, k samples long, of columns x0 to x1 of row y
 module _ (w h x0 x1 y i k : ℕ) (le : x0 < x1) (ri : x1 ≤ w) (yh : y < h) (ei : i ≡ y * w + x0) (ek : k ≡ x1 - x0) where
   pub part-end : i + k ≤ w * h
-  part-end = omega (arith, index-lt w h (x1 - 1) y (omega arith) yh)
+  part-end = omega (arith, index-lt {w = w} {h = h} {x = x1 - 1} {y = y} (omega arith) yh)
 
   pub part-fits : (l : List ℕ) → length l ≡ w * h → i + k ≤ length l
   part-fits l e = omega (arith, part-end)
@@ -187,5 +162,5 @@ module _ (w h x0 x1 y i k : ℕ) (le : x0 < x1) (ri : x1 ≤ w) (yh : y < h) (ei
       off-part x v r s b (no c) (no d) = put-after i k o p fit lp (v * w + x) (omega arith)
       off-part x v r s b (no c) (yes d) =
           let ex : v * w + x ≡ y * w + (v * w + x - y * w) = omega arith in
-          let sp = same-place w x v (v * w + x - y * w) y r (omega arith) ex in
+          let sp = same-place {w = w} {x = x} {x′ = v * w + x - y * w} v y r (omega arith) ex in
           absurd (b ((omega (arith, sp .0), omega (arith, sp .0)), (omega (arith, sp .1), omega (arith, sp .1))))

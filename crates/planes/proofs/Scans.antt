@@ -3,11 +3,13 @@ use mathlib.Core.Path.{_≡_, refl, sym, ap, ap₂, _∙_, subst}
 use mathlib.Core.Bool.{Bool, true, false}
 use mathlib.Core.Logic.{_⊎_, inl, inr}
 use mathlib.Core.List.{List}
-use Prim.Native.Nat.{ℕ, zero, suc, _+_, _-_, _≤_, _<_}
-use native.Mathlib.Nat.{le-trans}
+use Prim.Native.Nat.{ℕ, zero, suc, _+_, _-_, _*_, _%_, _^_, _≤_, _<_}
+use native.Mathlib.Nat.{le-trans, one-mul, mod-eq-of-lt, lt-of-le-of-lt}
 use native.Mathlib.Decide.{decLt}
 use native.Mathlib.Numerals.{add-one}
 use native.Mathlib.Omega.{arith}
+use lib.Dec.{lit<}
+use lib.Pow.{pow-mono}
 use lib.Bits.{bitOr, or-add-and, and-le-l, and-le-r}
 use Rattle.standard.specs.Refusals.{Tells}
 use Rattle.standard.specs.declared.Rectangle.{Rectangle}
@@ -70,6 +72,10 @@ two-more r y P above here below v h p q = of (decLt v y) (decLt y v)
     of (yes a) d = above v a p q
     of (no a) (no d) = let e : y ≡ v = omega arith in subst P e here
     of (no a) (yes d) = let e : rowBelow r y ≡ v = omega arith in subst P e below
+
+-- 1 shifted by d in 32 bits
+pub shifted : (d : ℕ) → d ≤ 16 → (1 * 2 ^ d) % 4294967296 ≡ 2 ^ d
+shifted d h = rw one-mul (mod-eq-of-lt (lt-of-le-of-lt (pow-mono h) (lit< tt)))
 
 -- ---- a scan: what holds of each number below j, and at j, holds of each below j + 1
 

@@ -1,7 +1,7 @@
 // Planes: where a sample stands, a block copied in, a block scanned, and the leading rows.
 use standard::Rectangle;
 ghost use mathlib.Core.Path.{_≡_};
-ghost use Prim.Native.Nat.{_+_, _-_, _*_, _≤_, _<_};
+ghost use Prim.Native.Nat.{_+_, _-_, _*_, _^_, _≤_, _<_};
 ghost use lib.Bits.{bitOr};
 ghost use lib.ListN.{length, getD, take};
 ghost use Rattle.standard.specs.Samples.{at};
@@ -62,6 +62,14 @@ pub fn put_block(samples: &[u16], plane: &mut [u16], w: usize, h: usize, r: Rect
 }
 
 // ---- samples scanned
+
+// The largest sample of a depth.
+pub fn top_of(depth: u32) -> u16
+    requires { ⌜ depth ≤ 16 ⌝ }
+    ensures { λ r. ⌜ r ≡ 2 ^ depth - 1 ⌝ }
+{
+    ((1u32 << depth) - 1) as u16
+}
 
 // The samples ORed together: none is above that. It takes a sixth of the time of a test of each.
 fn or_row(samples: &[u16]) -> u16

@@ -11,7 +11,6 @@ pub mod Painting
 pub mod Finishing
 pub mod Meets
 pub mod Unique
-pub mod Packed
 pub mod First
 pub mod Second
 pub mod Tied

@@ -13,8 +13,7 @@ use Rattle.standard.specs.Picture.{components, planeWidth, planeHeight, rectang
 use Rattle.standard.specs.Samples.{at}
 use Rattle.standard.specs.Reasons.{Planes, planeOf, PlanesFit}
 use Rattle.standard.specs.Calls.{Written, BlockWritten}
-use Rattle.standard.proofs.Judging.{inside?}
-use Rattle.standard.proofs.Rasters.{length-planeBy, at-planeBy, written-unique}
+use Rattle.standard.proofs.Rasters.{length-planeBy, at-planeBy, inside?, written-unique}
 use Rattle.promises.specs.Ours.{choose, painted, withPlane, paintedIn}
 use Rattle.standard.proofs.Three.{components-most, plane-long}
 

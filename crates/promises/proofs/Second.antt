@@ -17,6 +17,7 @@ use Rattle.standard.specs.Reasons.{planeOf, due, MeansHere, ShortestHere, Copie
 use Rattle.standard.specs.Reasons as reasons
 use Rattle.standard.specs.Calls.{Filtered, FinishedRows, leading}
 use Rattle.standard.proofs.Decisions.{differ}
+use Rattle.standard.proofs.Packed.{packed-back}
 use Rattle.standard.proofs.Reader.{one-meaning, meant-not-early, meant-not-remain}
 use Rattle.standard.proofs.Refusing.{sound?}
 use Rattle.promises.specs.World.{World, pictureOf, Call, Read, Write, Filter, Rows, refused, set-read, bins-written, rows, Accepted, Result, Stage, reasonsOf}
@@ -24,7 +25,6 @@ use Rattle.promises.specs.Contract.{appended, Contract}
 use Rattle.promises.specs.Demands.{Due, Demand2}
 use Rattle.promises.proofs.Stored.{means-valid, neighbour-valid}
 use Rattle.promises.proofs.First.{Became, away, through, became, answers}
-use Rattle.promises.proofs.Packed.{packed-back}
 
 -- ---- a set that is read is within the rules
 

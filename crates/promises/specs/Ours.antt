@@ -18,7 +18,7 @@ use Rattle.standard.specs.Table.{stored}
 use Rattle.standard.specs.Reasons.{Planes, planeOf, markOf, leftSet, upperSet}
 use Rattle.standard.specs.Calls.{delivered, leading}
 use Rattle.standard.proofs.Decisions.{some?, Verdict, refusal, clear}
-use Rattle.standard.proofs.Judging.{inside?}
+use Rattle.standard.proofs.Rasters.{inside?}
 use Rattle.standard.proofs.Reader.{Heard, meant, early, remain, hear}
 use Rattle.standard.proofs.Spelling.{Spelling, shortest, unspelled, spellOut}
 use Rattle.standard.proofs.Refusing.{openVerdict, readVerdict, writeVerdict, deliverVerdict, filterVerdict, rowsVerdict}

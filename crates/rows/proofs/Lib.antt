@@ -2,5 +2,4 @@ pub mod Signs
 pub mod Holds
 pub mod Scales
 pub mod Shifts
-pub mod Unique
 pub mod Keys

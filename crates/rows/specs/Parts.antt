@@ -16,9 +16,6 @@ edgeRow m s a b j = moved m (edgeIdxOf (getD s j 0) (some (getD a j 0)) (some (g
 abbrev pub bandRow : Moves → ℕ → ℕ → List ℕ → ℕ → ℕ
 bandRow m depth position s j = moved m (bandIdx depth position (getD s j 0)) (getD s j 0)
 
-abbrev pub copyRow : List ℕ → ℕ → ℕ
-copyRow s j = getD s j 0
-
 -- the parts of an edge row are as long as one another
 pub record Equal (s a b out : List ℕ) : Type 0 where
   pub own : length s ≡ length out

@@ -9,7 +9,7 @@ ghost use lib.ListN.{length};
 ghost use Rattle.standard.specs.Samples.{sign, edgeIdx, edgeIdxOf};
 ghost use Rattle.planes.specs.Places.{Filled};
 ghost use Rattle.rows.specs.Moves.{scaledBy, held, risesOf, fallsOf, movesOf, Only, picked, indexOf, Distinct, moved, Room};
-ghost use Rattle.rows.specs.Parts.{edgeRow, bandRow, copyRow, Equal, bandOf, bandsFrom, Banded};
+ghost use Rattle.rows.specs.Parts.{edgeRow, bandRow, Equal, bandOf, bandsFrom, Banded};
 
 // ---- the offsets of a block
 
@@ -53,14 +53,6 @@ pub fn scaled_by(o1: i8, o2: i8, o3: i8, o4: i8, shift: u32) -> Scaled
         o3: scale(o3, shift),
         o4: scale(o4, shift),
     }
-}
-
-// The greatest sample of a depth.
-fn top_of(depth: u32) -> u16
-    requires { ⌜ depth ≤ 16 ⌝ }
-    ensures { λ r. ⌜ r ≡ 2 ^ depth - 1 ⌝ }
-{
-    ((1u32 << depth) - 1) as u16
 }
 
 // v, kept within 0 and top.
@@ -112,7 +104,7 @@ pub fn moves_of(o: Scaled, depth: u32) -> Moves
     requires { ⌜ depth ≤ 16 ⌝ }
     ensures { λ r. ⌜ r ≡ movesOf depth o ⌝ }
 {
-    let top = top_of(depth);
+    let top = planes::top_of(depth);
     Moves {
         rise: rises(o, top),
         fall: falls(o),
@@ -304,17 +296,6 @@ pub fn band_row(m: Moves, position: u16, depth: u32, cur: &[u16], out: &mut [u16
     let mut i: usize = 0;
     while i < out.len() {
         out[i] = band_sample(m, four, depth, cur[i]);
-        i += 1;
-    }
-}
-
-pub fn copy_row(cur: &[u16], out: &mut [u16])
-    requires { ⌜ length (now cur) ≡ length (now out) ⌝ }
-    ensures { λ _. ⌜ Filled (length (now (out .entry))) (copyRow (now (cur .entry))) (now (out .entry)) (now (out .exit)) ⌝ }
-{
-    let mut i: usize = 0;
-    while i < out.len() {
-        out[i] = cur[i];
         i += 1;
     }
 }

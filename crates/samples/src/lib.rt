@@ -1,10 +1,10 @@
 // The filter of one block (H.265 8.7.3): the deblocked plane is read, the filtered plane is written.
 // Type and class are looked at once per block, and picture borders lie outside the loops over
 // samples. CTB edges are no borders: neighbours are samples of the same deblocked plane.
+use planes::copy_row;
 use planes::index;
 use rows::Moves;
 use rows::band_row;
-use rows::copy_row;
 use rows::edge_row;
 use rows::moves_of;
 use rows::scaled_by;

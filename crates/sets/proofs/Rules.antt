@@ -1,7 +1,7 @@
 -- The rules of a set read off a component's bytes: magnitudes, edge signs, what fits, and what Cr shares with Cb.
-use mathlib.Core.Path.{_≡_, refl, sym, ap, subst}
+use mathlib.Core.Path.{_≡_, refl, sym, subst}
 use mathlib.Core.Bool.{Bool, true, false}
-use Prim.Native.Nat.{ℕ, zero, suc, _-_, _≤_, _<_, min, _^_}
+use Prim.Native.Nat.{ℕ, zero, suc, _-_, _≤_, _<_}
 use native.Mathlib.Decide.{decLt}
 use native.Mathlib.Omega.{arith}
 use lib.Dec.{eqb}
@@ -9,7 +9,7 @@ use borrow.Author.Tests.{lt-ltb, le-ltb}
 use lib.IntN.{ℤ, natAbs}
 use Rattle.standard.specs.declared.Picture.{Picture}
 use Rattle.standard.specs.declared.Offsets.the-variants.{Off, Band, Edge}
-use Rattle.standard.specs.Sets.{largest, most, switchesOf, NotNegative, NotPositive, Small, Fits, Shares, Ruled}
+use Rattle.standard.specs.Sets.{most, switchesOf, NotNegative, NotPositive, Small, Fits, Shares, Ruled}
 use Rattle.standard.specs.Table.{offsetOf, offsetsBy, decodeOffsets}
 use Rattle.standard.specs.Refusals.{Tells}
 use Rattle.standard.proofs.Answers.{tell-same}
@@ -147,9 +147,3 @@ module _ (p : Picture) (cb cr : Six) (r : Bool) where
 
   pub chroma-off : p .chroma ≡ false → Tells ((says cb ≡ Off) × (says cr ≡ Off)) r → Tells (ChromaRuled (switchesOf p) (says cb) (says cr)) r
   chroma-off e t = subst chroma-by (sym e) t
-
--- ---- M
-
-pub largest-is-0 : (d : ℕ) → d ≤ 5 → largest d ≡ 0
-unfolding largest
-largest-is-0 d h = let e : min d 10 - 5 ≡ 0 = omega arith in ap (λ (n : ℕ). 2 ^ n - 1) e

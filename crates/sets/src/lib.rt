@@ -9,8 +9,7 @@ ghost use Prim.Native.Nat.{_+_, _*_, _≤_};
 ghost use lib.IntN.{natAbs};
 ghost use lib.ListN.{length, take, drop};
 ghost use Rattle.standard.specs.declared.Offsets.the-variants.{Off};
-ghost use Rattle.standard.specs.Picture.{depthOf};
-ghost use Rattle.standard.specs.Sets.{largest, most, switchesOf, Small, EdgeSigns, Fits, Shares, Valid};
+ghost use Rattle.standard.specs.Sets.{most, switchesOf, Small, EdgeSigns, Fits, Shares, Valid};
 ghost use Rattle.standard.specs.Table.{entrySize, offsetByte, offsetOf, encodeOffsets, encode, entered};
 ghost use Rattle.standard.specs.Refusals.{Tells};
 ghost use Rattle.sets.specs.Entries.{listOf, says, setOf, Coded, LumaRuled, ChromaRuled, put, Finds, Stands, StandsFor};
@@ -183,44 +182,17 @@ pub fn same_set(a: CtuSet, b: CtuSet) -> bool
 
 // ---- judged
 
-// The depth of a component.
-fn depth_of(p: Picture, i: usize) -> u8
-    ensures { λ r. ⌜ r ≡ depthOf p i ⌝ }
-{
-    p.depth
-}
-
-// M at a depth, and of a component.
-fn largest_at(depth: u8) -> u8
-    ensures { λ r. ⌜ r ≡ largest depth ⌝ }
-{
-    match depth {
-        0..=5 => 0,
-        6 => 1,
-        7 => 3,
-        8 => 7,
-        9 => 15,
-        _ => 31,
-    }
-}
-
-fn most_of(p: Picture, i: usize) -> u8
-    ensures { λ r. ⌜ r ≡ most (switchesOf p) i ⌝ }
-{
-    largest_at(depth_of(p, i))
-}
-
 // Whether the offset has no magnitude above m.
-fn is_small(b: u8, m: u8) -> bool
+fn is_small(b: u8, m: u32) -> bool
     ensures { λ r. ⌜ Tells (natAbs (offsetOf b) ≤ m) r ⌝ }
 {
     if b < 128 {
-        return 128 - b <= m;
+        return (128 - b) as u32 <= m;
     }
-    b - 128 <= m
+    (b - 128) as u32 <= m
 }
 
-fn are_small(s: Six, m: u8) -> bool
+fn are_small(s: Six, m: u32) -> bool
     ensures { λ r. ⌜ Tells (Small m (offsetOf (s .o1)) (offsetOf (s .o2)) (offsetOf (s .o3)) (offsetOf (s .o4))) r ⌝ }
 {
     if !is_small(s.o1, m) {
@@ -256,7 +228,7 @@ fn is_off(s: Six) -> bool
     s.kind == 0
 }
 
-fn is_fit(s: Six, m: u8) -> bool
+fn is_fit(s: Six, m: u32) -> bool
     ensures { λ r. ⌜ Tells (Fits m (says s)) r ⌝ }
 {
     let kind = s.kind;
@@ -275,11 +247,11 @@ fn is_fit(s: Six, m: u8) -> bool
     has_edge_signs(s)
 }
 
-// The same, at component i's depth.
-fn is_fit_at(p: Picture, i: usize, s: Six) -> bool
-    ensures { λ r. ⌜ Tells (Fits (most (switchesOf p) i) (says s)) r ⌝ }
+// The same, at the component's depth.
+fn is_fit_at(p: Picture, component: u8, s: Six) -> bool
+    ensures { λ r. ⌜ Tells (Fits (most (switchesOf p) component) (says s)) r ⌝ }
 {
-    is_fit(s, most_of(p, i))
+    is_fit(s, geometry::most_of(p, component))
 }
 
 // Whether Cr has Cb's type and class.

@@ -1,70 +1,22 @@
--- Bins in bytes: packed ones are found again, one store into a byte puts the bits that fit there, and puts follow one another.
+-- Bins in bytes: what is packed over fewer bins does not see them, one store into a byte puts the bits that fit there, and puts follow one another.
 use mathlib.Core.Path.{_≡_, refl, sym, ap, ap₂, _∙_, subst}
-use mathlib.Core.Bool.{Bool, true, false}
+use mathlib.Core.Bool.{Bool}
 use mathlib.Core.List.{List, [], _∷_, _++_, append-assoc, append-nil}
 use Prim.Native.Nat.{ℕ, zero, suc, _+_, _-_, _*_, _/_, _%_, _^_, _≤_, _<_}
-use native.Mathlib.Nat.{add-zero, sub-zero, zero-sub, suc-sub-suc, not-suc-le-zero, le-of-suc-le-suc, mod-eq-of-lt, lt-of-le-of-lt, div-mul-le-self}
+use native.Mathlib.Nat.{add-zero, not-suc-le-zero, le-of-suc-le-suc, mod-eq-of-lt, lt-of-le-of-lt, div-mul-le-self}
 use native.Mathlib.Omega.{arith}
-use lib.ListN.{length, take, drop, getD, set, length-append, length-drop, length-set}
-use lib.Seq.{take-add, take-nil, take-all, take-append-le, take-append-add, drop-append-add, drop-drop, drop-at, take-at, length-take-le}
-use Rattle.standard.specs.Bins.{fixedLength, bitsOf, number, bytesOf, packed}
-use Rattle.sink.specs.Puts.{Room, Puts}
-use Rattle.sink.proofs.Bits.{number-nil, number-lt, number-add, number-high, number-take, number-fixed, shl-shr-part}
-use Rattle.standard.proofs.Elements.{high-one, high-zero}
+use lib.ListN.{length, take, drop, getD, set, length-append, length-set}
+use lib.Seq.{take-append-le, take-append-add, drop-append-add, drop-drop, drop-at, take-at, length-take-le}
+use Rattle.standard.specs.Bins.{fixedLength, bitsOf, binsOf, number, bytesOf, packed}
+use Rattle.standard.proofs.Bits.{number-nil, number-lt, number-add, number-high, number-take, number-fixed}
 use Rattle.standard.proofs.Longest.{fixed-length}
+use Rattle.standard.proofs.Packed.{bytes-length, packed-back}
+use Rattle.sink.specs.Puts.{Room, Puts}
+use Rattle.sink.proofs.Bits.{shl-shr-part}
 
--- ---- packed bits are the bits again
+-- ---- packed bins
 
-front : (n : ℕ) (l r : List Bool) → take (length l) (fixedLength n (number n l) ++ r) ≡ take n l ++ take (length l - n) r
-unfolding number fixedLength
-front zero l r = ap (λ (k : ℕ). take k r) (sym (sub-zero (length l)))
-front (suc n) [] r = ap (λ (k : ℕ). take k r) (sym (zero-sub (suc n)))
-front (suc n) (true ∷ l) r =
-    ap (λ (w : List Bool). take (suc (length l)) (w ++ r)) (high-one n (number n l) (number-lt n l))
-    ∙ ap (λ (w : List Bool). true ∷ w) (front n l r)
-    ∙ ap (λ (k : ℕ). true ∷ (take n l ++ take k r)) (sym (suc-sub-suc (length l) n))
-front (suc n) (false ∷ l) r =
-    ap (λ (w : List Bool). take (suc (length l)) (w ++ r)) (high-zero n (number n l) (number-lt n l))
-    ∙ ap (λ (w : List Bool). false ∷ w) (front n l r)
-    ∙ ap (λ (k : ℕ). false ∷ (take n l ++ take k r)) (sym (suc-sub-suc (length l) n))
-
-bytes-bits : (n : ℕ) (l : List Bool) → take (length l) (bitsOf (bytesOf n l)) ≡ take (8 * n) l
-unfolding bitsOf bytesOf
-bytes-bits zero l = take-nil (length l)
-bytes-bits (suc n) l =
-    let e : 8 + 8 * n ≡ 8 * suc n = omega arith in
-    front 8 l (bitsOf (bytesOf n (drop 8 l)))
-    ∙ ap (λ (k : ℕ). take 8 l ++ take k (bitsOf (bytesOf n (drop 8 l)))) (sym (length-drop 8 l))
-    ∙ ap (λ (w : List Bool). take 8 l ++ w) (bytes-bits n (drop 8 l))
-    ∙ sym (take-add 8 (8 * n) l)
-    ∙ ap (λ (k : ℕ). take k l) e
-
-bytes-length : (n : ℕ) (l : List Bool) → length (bytesOf n l) ≡ n
-unfolding bytesOf
-bytes-length zero l = refl
-bytes-length (suc n) l = ap suc (bytes-length n (drop 8 l))
-
-bits-length : (s : List ℕ) → length (bitsOf s) ≡ 8 * length s
-unfolding bitsOf fixedLength
-bits-length [] = refl
-bits-length (b ∷ s) = omega (arith, bits-length s)
-
-bits-append : (a b : List ℕ) → bitsOf (a ++ b) ≡ bitsOf a ++ bitsOf b
-unfolding bitsOf
-bits-append [] b = refl
-bits-append (x ∷ a) b = ap (λ (r : List Bool). fixedLength 8 x ++ r) (bits-append a b) ∙ sym (append-assoc (fixedLength 8 x) (bitsOf a) (bitsOf b))
-
--- the bits at the front of a buffer that holds bins are those bins
-pub packed-front : (w : List Bool) (l : List ℕ) → take (length w) (bitsOf (packed w l)) ≡ w
-unfolding packed
-packed-front w l =
-    let n : ℕ = (length w + 7) / 8 in
-    ap (take (length w)) (bits-append (bytesOf n w) (drop n l))
-    ∙ take-append-le (length w) (bitsOf (bytesOf n w)) (bitsOf (drop n l)) (omega (arith, bits-length (bytesOf n w), bytes-length n w))
-    ∙ bytes-bits n w
-    ∙ take-all (8 * n) w (omega arith)
-
--- what is put over fewer bins does not see them
+-- what is packed over fewer bins does not see them
 pub packed-packed : (w v : List Bool) (l : List ℕ) → length v ≤ length w → packed w (packed v l) ≡ packed w l
 unfolding packed
 packed-packed w v l h =
@@ -77,12 +29,6 @@ packed-packed w v l h =
     ∙ drop-append-add (bytesOf m v) (drop m l) (n - m)
     ∙ drop-drop (n - m) m l
     ∙ ap (λ (k : ℕ). drop k l) s)
-
-pub packed-length : (w : List Bool) (l : List ℕ) → length w ≤ 8 * length l → length (packed w l) ≡ length l
-unfolding packed
-packed-length w l h =
-    let n : ℕ = (length w + 7) / 8 in
-    length-append (bytesOf n w) (drop n l) ∙ omega (arith, bytes-length n w, length-drop n l)
 
 -- ---- one store
 
@@ -153,6 +99,7 @@ stored (x ∷ l) (suc q) at s k t v a e p h b =
 pub part-puts : (l : List ℕ) (at k v : ℕ) (exit : List ℕ) (next : ℕ) → at % 8 + k ≤ 8 → 0 < k → at + k ≤ 8 * length l → ((i : ℕ) → getD l i 0 < 256)
     → exit ≡ set l (at / 8) (getD l (at / 8) 0 / 2 ^ (8 - at % 8) * 2 ^ (8 - at % 8) + v % 2 ^ k * 2 ^ (8 - at % 8 - k))
     → next ≡ at + k → Puts at (fixedLength k v) l exit next
+unfolding binsOf
 part-puts l at k v exit next r p f b e n =
     let t : ℕ = 8 - at % 8 - k in
     let kt : 8 - at % 8 ≡ k + t = omega arith in
@@ -163,7 +110,7 @@ part-puts l at k v exit next r p f b e n =
       moved = n ∙ ap (λ (j : ℕ). at + j) (sym (fixed-length k v));
       long = ap length e ∙ length-set l (at / 8) _;
       bytes = λ bins before len is.
-          let old : take at (bitsOf l) ≡ bins = ap₂ (λ (j : ℕ) (m : List ℕ). take j (bitsOf m)) (sym len) is ∙ packed-front bins before in
+          let old : take at (bitsOf l) ≡ bins = ap₂ (λ (j : ℕ) (m : List ℕ). take j (bitsOf m)) (sym len) is ∙ packed-back bins before in
           s ∙ ap₂ (λ (o : List Bool) (m : List ℕ). packed (o ++ fixedLength k v) m) old is
           ∙ packed-packed (bins ++ fixedLength k v) bins before (omega (arith, length-append bins (fixedLength k v)));
     }

@@ -24,7 +24,8 @@ use Rattle.standard.specs.Reasons.{Planes, leftSet, upperSet, MeansHere,
 use Rattle.standard.proofs.Codes.{Got, got, short}
 use Rattle.standard.proofs.Reader.{readCtu, heard, hear, got-is-meant}
 use Rattle.standard.proofs.Decisions.{or?, some?, judge, numberIn, IsRefusal, refused-with, accepted}
-use Rattle.standard.proofs.Judging.{rules?, adjacent?, inside?, fits?, same-offsets?, same-set?, valid?, same-bytes?}
+use Rattle.standard.proofs.Rasters.{inside?}
+use Rattle.standard.proofs.Judging.{rules?, adjacent?, fits?, same-offsets?, same-set?, valid?, same-bytes?}
 use Rattle.standard.proofs.Refusing.{sound?, readVerdict, filterVerdict}
 
 -- monochrome, CTB size 16, depth 8, luma on

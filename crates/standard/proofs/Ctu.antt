@@ -105,7 +105,7 @@ module _ {I : CtuSet → List Bool → Type 0} where
 abbrev pub Merges : Switches → Option CtuSet → Option CtuSet → CtuSet → List Bool → Type 0
 Merges s left up = Merge left (Merge up (Spelled (Valid s) (full s)))
 
-clash : {X : Type 0} {b : Bool} → b ≡ true → b ≡ false → X
+pub clash : {X : Type 0} {b : Bool} → b ≡ true → b ≡ false → X
 clash e f = impossible cc
 
 module _ (s : Switches) (left up : Option CtuSet) where

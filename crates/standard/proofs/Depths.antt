@@ -32,6 +32,10 @@ largest-monotone {d} {e} h =
     let g : min d 10 - 5 ≤ min e 10 - 5 = omega arith in
     omega (arith, pow-mono g)
 
+pub largest-is-0 : {d : ℕ} → d ≤ 5 → largest d ≡ 0
+unfolding largest
+largest-is-0 {d} h = let e : min d 10 - 5 ≡ 0 = omega arith in ap (λ (n : ℕ). 2 ^ n - 1) e
+
 pub largest-is-31 : {d : ℕ} → 10 ≤ d → largest d ≡ 31
 unfolding largest
 largest-is-31 {d} h = let e : min d 10 - 5 ≡ 5 = omega arith in ap (λ (n : ℕ). 2 ^ n - 1) e

@@ -8,11 +8,10 @@ use Prim.Native.Nat.{ℕ, zero, suc, _+_, _%_, _/_, _≤_, _<_}
 use native.Mathlib.Decide.{ℕ-discrete, decLe, decLt}
 use lib.IntN.{ℤ, pos, negsuc, natAbs}
 use Rattle.standard.specs.declared.Picture.{Picture}
-use Rattle.standard.specs.declared.Rectangle.{Rectangle}
 use Rattle.standard.specs.declared.Offsets.{Offsets}
 use Rattle.standard.specs.declared.Offsets.the-variants.{Off, Band, Edge}
 use Rattle.standard.specs.declared.CtuSet.{CtuSet}
-use Rattle.standard.specs.Picture.{Side, Rules, columns, ctuCount, Inside, Adjacent}
+use Rattle.standard.specs.Picture.{Side, Rules, columns, ctuCount, Adjacent}
 use Rattle.standard.specs.Sets.{Switches, most, NotNegative, NotPositive, Small, EdgeSigns, Fits, Shares, Ruled, Valid}
 use Rattle.standard.proofs.Decisions.{differ, by-iff, or?}
 
@@ -56,10 +55,6 @@ adjacent? p k j =
     (Dec·and (decLe (k % columns p) (j % columns p + 1))
     (Dec·and (decLe (j % columns p) (k % columns p + 1))
     (Dec·and (decLe (k / columns p) (j / columns p + 1)) (decLe (j / columns p) (k / columns p + 1))))))
-
-unfoldable pub inside? : (r : Rectangle) (x y : ℕ) → Dec (Inside r x y)
-unfolding Dec·and
-inside? r x y = Dec·and (Dec·and (decLe (r .x0) x) (decLt x (r .x1))) (Dec·and (decLe (r .y0) y) (decLt y (r .y1)))
 
 -- ---- a set
 

@@ -13,12 +13,15 @@ pub mod Moves
 pub mod Numbers
 pub mod Answers
 pub mod Parts
+pub mod Bits
 pub mod Codes
 pub mod Elements
+pub mod Packed
 pub mod Components
 pub mod Ctu
 pub mod Reader
 pub mod Longest
+pub mod Signed
 pub mod Entries
 pub mod Decisions
 pub mod Judging

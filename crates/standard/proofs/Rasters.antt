@@ -2,6 +2,7 @@
 -- so `Written` has one outcome, and the filtered plane has the filtered sample at each place.
 use mathlib.Core.Path.{_≡_, refl, sym, ap, ap₂, _∙_, subst}
 use mathlib.Core.List.{List}
+use mathlib.Core.Logic.{Dec·and}
 use Prim.Native.Nat.{ℕ, zero, suc, _+_, _-_, _*_, _/_, _%_, _≤_, _<_}
 use native.Mathlib.Nat.{zero-mul, add-mul, one-mul, mul-comm, mul-le-mul-right, mul-add-div-right, div-eq-of-lt, mul-add-mod-self-right, mod-eq-of-lt, div-lt-iff-lt-mul, mod-lt, div-add-mod', add-zero, not-suc-le-zero, le-of-suc-le-suc}
 use native.Mathlib.Decide.{decLe, decLt}
@@ -95,15 +96,9 @@ module _ (w h : ℕ) where
 
 -- ---- what is written
 
-pub inside? : (r : Rectangle) (x y : ℕ) → Dec (Inside r x y)
-inside? r x y = go (decLe (r .x0) x) (decLt x (r .x1)) (decLe (r .y0) y) (decLt y (r .y1))
-  where
-    go : Dec (r .x0 ≤ x) → Dec (x < r .x1) → Dec (r .y0 ≤ y) → Dec (y < r .y1) → Dec (Inside r x y)
-    go (yes a) (yes b) (yes c) (yes d) = yes ((a, b), (c, d))
-    go (no n) b c d = no (λ k. n (k .0 .0))
-    go (yes a) (no n) c d = no (λ k. n (k .0 .1))
-    go (yes a) (yes b) (no n) d = no (λ k. n (k .1 .0))
-    go (yes a) (yes b) (yes c) (no n) = no (λ k. n (k .1 .1))
+unfoldable pub inside? : (r : Rectangle) (x y : ℕ) → Dec (Inside r x y)
+unfolding Dec·and
+inside? r x y = Dec·and (Dec·and (decLe (r .x0) x) (decLt x (r .x1))) (Dec·and (decLe (r .y0) y) (decLt y (r .y1)))
 
 pub written-unique : {w h : ℕ} {r : Rectangle} {f : ℕ → ℕ → ℕ} {a b c : List ℕ}
     → Written w h r f a b → Written w h r f a c → length a ≡ w * h → b ≡ c

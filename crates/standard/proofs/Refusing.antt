@@ -22,7 +22,8 @@ use Rattle.standard.specs.Refusals.{Reason, First, Clear}
 use Rattle.standard.specs.Reasons.{Planes, planeOf, PlanesFit, MarksFit, TableFits, markCount, markPlace, markOf, area, due, leftSet, upperSet, Copies, SetOutsideTheRules, NeighbourOutsideTheRules, BinsDoNotFit, NoBinsMeanThisSet, SetIsMissing, SomeWaited, MarkAboveTwo, NotDelivered, DeliveredBefore, DeblockedSampleTooLarge, openReasons, readReasons, writeReasons, deliverReasons, filterReasons, rowsReasons}
 use Rattle.standard.specs.Reasons as reasons
 use Rattle.standard.proofs.Decisions.{differ, by-iff, or?, some?, Verdict, Decided, judge}
-use Rattle.standard.proofs.Judging.{rules?, adjacent?, inside?, same-set?, valid?, same-bytes?}
+use Rattle.standard.proofs.Rasters.{inside?}
+use Rattle.standard.proofs.Judging.{rules?, adjacent?, same-set?, valid?, same-bytes?}
 use Rattle.standard.proofs.Spelling.{Spelling, shortest, unspelled, spellOut}
 use Rattle.standard.proofs.Reader.{Heard, meant, early, remain, hear, meant-not-early, meant-not-remain, early-not-remain}
 use Rattle.standard.proofs.Entries.{stored-sound}

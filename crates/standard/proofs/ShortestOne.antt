@@ -10,7 +10,8 @@ use Rattle.standard.specs.declared.CtuSet.{CtuSet}
 use Rattle.standard.specs.Sets.{Switches}
 use Rattle.standard.specs.Bins.{full}
 use Rattle.standard.specs.Means.{anyOn, notTaken, Means, no-bins, merge-left, merge-up, in-full, Shortest}
-use Rattle.standard.proofs.Spelling.{clash, full-not-empty}
+use Rattle.standard.proofs.Ctu.{clash}
+use Rattle.standard.proofs.Spelling.{full-not-empty}
 
 module _ (s : Switches) (l u : Option CtuSet) (q : CtuSet) where
   -- a neighbour that could have been merged with costs a bin

@@ -12,15 +12,13 @@ use Rattle.standard.specs.declared.CtuSet.{CtuSet}
 use Rattle.standard.specs.Sets.{Switches, most, Valid, allOff}
 use Rattle.standard.specs.Bins.{truncated, typeBins, rest, restOfCr, when, full}
 use Rattle.standard.specs.Means.{either, anyOn, notTaken, Means, no-bins, merge-left, merge-up, in-full, Shortest}
+use Rattle.standard.proofs.Ctu.{clash}
 use Rattle.standard.proofs.Decisions.{differ, by-iff}
 use Rattle.standard.proofs.Judging.{same-set?, valid?}
 
 pub data Spelling (s : Switches) (left up : Option CtuSet) (q : CtuSet) : Type 0 where
   shortest : (bins : List Bool) → Shortest s left up q bins → Spelling s left up q
   unspelled : ((bins : List Bool) → ¬ Means s left up q bins) → Spelling s left up q
-
-pub clash : {X : Type 0} {b : Bool} → b ≡ true → b ≡ false → X
-clash e f = differ (cc)
 
 is-it? : (o : Option CtuSet) (q : CtuSet) → Dec (o ≡ some q)
 unfolding same-set?

@@ -72,6 +72,12 @@ pub struct CtuSet {
     pub cr: Offsets,
 }
 
+// A neighbour that a merge may reach, with its set; or there is none.
+pub enum Near {
+    Nothing,
+    Set(CtuSet),
+}
+
 // Why a call is refused. `numberOf` in specs/Refusals gives each its number in document 01.
 pub enum Refusal {
     Description,

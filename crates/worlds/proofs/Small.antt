@@ -22,7 +22,8 @@ use Rattle.standard.specs.Reasons.{Planes, due, MeansHere}
 use Rattle.standard.specs.Calls.{delivered}
 use Rattle.standard.proofs.Cases.{mono, ofLuma}
 use Rattle.standard.proofs.Decisions.{differ, by-iff, or?, some?}
-use Rattle.standard.proofs.Judging.{rules?, inside?, valid?, same-set?, same-bytes?}
+use Rattle.standard.proofs.Rasters.{inside?}
+use Rattle.standard.proofs.Judging.{rules?, valid?, same-set?, same-bytes?}
 use Rattle.standard.proofs.Reader.{readCtu, got-is-meant}
 use Rattle.promises.specs.World.{World, pictureOf, Call, Open, Read, Write, Deliver, Filter, Rows, Answer, refused, done, set-read, bins-written, rows, Accepted, Stage}
 use Rattle.promises.specs.Demands.{Own, IsBlock, OwnData, NoOpening, Honest, Happened, Filters, Delivers, Lengths, Due, Life}

@@ -14,7 +14,7 @@ use Rattle.standard.specs.Samples.{layoutOf, at, sample}
 use Rattle.standard.specs.Table.{stored}
 use Rattle.standard.specs.Reasons.{planeOf, markOf, leftSet, upperSet}
 use Rattle.standard.proofs.Codes.{Got, got, short}
-use Rattle.standard.proofs.Judging.{inside?}
+use Rattle.standard.proofs.Rasters.{inside?}
 use Rattle.standard.proofs.Reader.{readCtu}
 use Rattle.promises.specs.World.{World, pictureOf, Open, Read, Write, Deliver, Filter, Rows, Answer, refused, done, set-read, bins-written, rows, Result, Stage}
 use Rattle.promises.specs.Contract.{appended, withFiltered, unchanged}

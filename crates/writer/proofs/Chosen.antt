@@ -12,7 +12,8 @@ use Rattle.standard.specs.Means.{either, anyOn, Means, no-bins, merge-left, mer
 use Rattle.standard.specs.Refusals.{Tells}
 use Rattle.standard.proofs.Decisions.{differ}
 use Rattle.standard.proofs.Judging.{same-set?}
-use Rattle.standard.proofs.Spelling.{clash, means-not-empty, up-least, full-least}
+use Rattle.standard.proofs.Ctu.{clash}
+use Rattle.standard.proofs.Spelling.{means-not-empty, up-least, full-least}
 use Rattle.writer.specs.declared.Form.{Form}
 use Rattle.writer.specs.declared.Form.the-variants.{Empty, Left, Up, Full}
 use Rattle.writer.specs.Forms.{Meant, decided, copies, chosen, formBins, written}

@@ -9,11 +9,11 @@ use native.Mathlib.Omega.{arith}
 use lib.ListN.{length}
 use Rattle.standard.specs.declared.CtuSet.{CtuSet}
 use Rattle.standard.specs.Sets.{Switches}
-use Rattle.standard.specs.Bins.{binsOf, packed}
+use Rattle.standard.specs.Bins.{binsOf}
 use Rattle.standard.specs.Means.{Shortest}
 use Rattle.standard.proofs.Codes.{got}
+use Rattle.standard.proofs.Packed.{packed-back}
 use Rattle.standard.proofs.Reader.{readCtu, meant-is-got}
-use Rattle.sink.proofs.Packed.{packed-front}
 use Rattle.writer.specs.declared.Wrote.{Wrote}
 use Rattle.writer.specs.declared.Wrote.the-variants.{Bins, NoRoom}
 use Rattle.writer.specs.Forms.{written}
@@ -28,10 +28,6 @@ writes-one bins before NoRoom (Bins k) h i = absurd (omega (arith, h .0, i .0))
 writes-one bins before NoRoom NoRoom h i = (refl, h .1 ∙ sym (i .1))
 
 -- ---- bins in bytes, and back
-
-pub packed-back : (bins : List Bool) (out : List ℕ) → binsOf (packed bins out) (length bins) ≡ bins
-unfolding binsOf
-packed-back bins out = packed-front bins out
 
 -- the bytes, with the count that is answered, hold the bins
 pub writes-back : (bins : List Bool) (before : List ℕ) {after : List ℕ} {n : ℕ} → Writes bins before after (Bins n) → binsOf after n ≡ bins

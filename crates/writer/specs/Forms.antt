@@ -7,14 +7,8 @@ use Rattle.standard.specs.Sets.{Switches}
 use Rattle.standard.specs.Bins.{full}
 use Rattle.standard.specs.Means.{anyOn, notTaken, Means}
 use Rattle.standard.proofs.Judging.{same-set?}
-use Rattle.writer.specs.declared.Near.{Near}
-use Rattle.writer.specs.declared.Near.the-variants.{Nothing, Set}
 use Rattle.writer.specs.declared.Form.{Form}
 use Rattle.writer.specs.declared.Form.the-variants.{Empty, Left, Up, Full}
-
-abbrev pub setOf : Near → Option CtuSet
-setOf Nothing = none
-setOf (Set q) = some q
 
 -- some bins mean the set
 abbrev pub Meant : Switches → Option CtuSet → Option CtuSet → CtuSet → Type 0

@@ -3,6 +3,7 @@
 // cannot hold them all are left as they were. The set need not be within the rules.
 use sink::Put;
 use standard::CtuSet;
+use standard::Near;
 use standard::Offsets;
 use standard::Picture;
 ghost use mathlib.Core.Path.{_≡_};
@@ -12,19 +13,13 @@ ghost use lib.IntN.{natAbs};
 ghost use lib.ListN.{length};
 ghost use Rattle.standard.specs.declared.Offsets.the-variants.{Band};
 ghost use Rattle.standard.specs.Picture.{Rules};
-ghost use Rattle.standard.specs.Sets.{most, switchesOf};
+ghost use Rattle.standard.specs.Sets.{switchesOf};
 ghost use Rattle.standard.specs.Bins.{truncated, magnitudes, signBins, typeBins, rest, restOfCr, when, full};
-ghost use Rattle.standard.specs.Means.{anyOn, notTaken};
+ghost use Rattle.standard.specs.Means.{setOf, notTaken};
 ghost use Rattle.standard.specs.Refusals.{Tells};
 ghost use Rattle.sink.specs.Puts.{Room, Puts};
-ghost use Rattle.writer.specs.Forms.{setOf, Meant, copies, chosen, formBins, written};
+ghost use Rattle.writer.specs.Forms.{Meant, copies, chosen, formBins, written};
 ghost use Rattle.writer.specs.Outcome.{Writes};
-
-// The set of a neighbour that a merge may reach, where there is one.
-pub enum Near {
-    Nothing,
-    Set(CtuSet),
-}
 
 // The forms of a CTU's bins.
 pub enum Form {
@@ -38,14 +33,6 @@ pub enum Form {
 pub enum Wrote {
     Bins(usize),
     NoRoom,
-}
-
-// M of a component.
-fn most(p: Picture, component: u8) -> u32
-    requires { ⌜ Rules p ⌝ }
-    ensures { λ r. ⌜ (r ≡ most (switchesOf p) component) × (r < 32) ⌝ }
-{
-    geometry::largest_magnitude(geometry::depth_of(p, component))
 }
 
 // ---- how many bins there are
@@ -184,8 +171,15 @@ fn bins_of_full(p: Picture, q: CtuSet) -> usize
     let cr = q.cr;
     let luma = p.luma;
     let chroma = p.chroma;
-    let n = bins_of_luma(luma, most(p, 0), y);
-    n + bins_of_chroma(chroma, most(p, 1), cb, most(p, 2), cr)
+    let n = bins_of_luma(luma, geometry::most_of(p, 0), y);
+    n
+        + bins_of_chroma(
+            chroma,
+            geometry::most_of(p, 1),
+            cb,
+            geometry::most_of(p, 2),
+            cr,
+        )
 }
 
 fn bins_of_not_taken(near: Near) -> usize
@@ -211,16 +205,6 @@ fn bins_of_form(form: Form, p: Picture, left: Near, up: Near, q: CtuSet) -> usiz
 
 // ---- which form
 
-fn any_on(p: Picture) -> bool
-    ensures { λ r. ⌜ r ≡ anyOn (switchesOf p) ⌝ }
-{
-    let luma = p.luma;
-    if luma {
-        return true;
-    }
-    p.chroma
-}
-
 fn is_copy(near: Near, q: CtuSet) -> bool
     ensures { λ r. ⌜ r ≡ copies (setOf near) q ⌝ }
 {
@@ -235,7 +219,7 @@ fn is_copy(near: Near, q: CtuSet) -> bool
 fn choose(p: Picture, left: Near, up: Near, q: CtuSet) -> Form
     ensures { λ r. ⌜ r ≡ chosen (switchesOf p) (setOf left) (setOf up) q ⌝ }
 {
-    if !any_on(p) {
+    if !geometry::any_on(p) {
         return Form::Empty;
     }
     if is_copy(left, q) {
@@ -254,7 +238,7 @@ pub fn has_bins(p: Picture, left: Near, up: Near, q: CtuSet) -> bool
     if sets::is_valid(p, q) {
         return true;
     }
-    if !any_on(p) {
+    if !geometry::any_on(p) {
         return false;
     }
     let copied = is_copy(left, q);
@@ -286,8 +270,15 @@ fn put_full(c: Put, out: &mut [u8], p: Picture, q: CtuSet) -> Put
     let cr = q.cr;
     let luma = p.luma;
     let chroma = p.chroma;
-    let c1 = c.luma(out, luma, most(p, 0), y);
-    c1.chroma(out, chroma, most(p, 1), cb, most(p, 2), cr)
+    let c1 = c.luma(out, luma, geometry::most_of(p, 0), y);
+    c1.chroma(
+        out,
+        chroma,
+        geometry::most_of(p, 1),
+        cb,
+        geometry::most_of(p, 2),
+        cr,
+    )
 }
 
 fn put_form(c: Put, out: &mut [u8], form: Form, p: Picture, left: Near, up: Near, q: CtuSet) -> Put

@@ -2,22 +2,22 @@
 use sets::Found;
 use standard::Answer;
 use standard::CtuSet;
+use standard::Near;
 use standard::Picture;
 use standard::Refusal;
 use standard::State;
 use standard::WriteAnswer;
 use standard::WriteOutcome;
-use writer::Near;
 use writer::Wrote;
 ghost use mathlib.Core.Path.{_≡_};
 ghost use lib.ListN.{drop};
 ghost use Rattle.standard.specs.Picture.{Rules};
 ghost use Rattle.standard.specs.Sets.{switchesOf};
+ghost use Rattle.standard.specs.Means.{setOf};
 ghost use Rattle.standard.specs.Reasons.{writeReasons};
 ghost use Rattle.standard.specs.Contracts.{WriteDecides, Wrote as Bytes, WriteEnsures};
 ghost use Rattle.geometry.specs.Geometry.{nearOf};
 ghost use Rattle.lent.specs.Due.{Due, InTable};
-ghost use Rattle.writer.specs.Forms.{setOf};
 ghost use Rattle.writing.specs.Writing.{Beside, SetWritten};
 
 // What stands beside the CTU: the neighbour's set or none, or bytes that are no set within the rules.

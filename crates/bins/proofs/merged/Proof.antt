@@ -1,8 +1,9 @@
 -- `merged` meets its contract.
 use borrow.Author.Needs.{needs}
 use mathlib.Core.Path.{sym, ap}
-use Rattle.bins.specs.declared.Near.{Near}
-use Rattle.bins.specs.Forms.{nearOf, copied}
+use Rattle.standard.specs.declared.Near.{Near}
+use Rattle.standard.specs.Means.{setOf}
+use Rattle.bins.specs.Forms.{copied}
 use Rattle.bins.proofs.Resolving.{not-there}
 use Rattle.bins.proofs.merged.Statement.{statement}
 use Rattle.bins.proofs.merged.Tie as tie
@@ -17,7 +18,7 @@ returns : tie.Need-returns
 returns c = not-there (c .enum-told .given .1) (c .before .before .pre)
 
 returns-2 : tie.Need-returns-2
-returns-2 c = sym (ap (λ (n : Near). copied (nearOf n)) (c .before .n .given .1))
+returns-2 c = sym (ap (λ (n : Near). copied (setOf n)) (c .before .n .given .1))
 
 pub merged-spec : {M : Type 1} → statement M
 merged-spec = tie.close (tie.spec enum-told enum-known-n returns returns-2)

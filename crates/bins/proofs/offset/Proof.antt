@@ -5,7 +5,8 @@ use lib.IntN.{ℤ, pos, negℤ, _-ℤ_}
 use native.Mathlib.Omega.{arith}
 use mir.Syntax.{w8, w32}
 use mir.Val.{SFits, toZ}
-use Rattle.bins.proofs.SmallNumbers.{back, fits, backed, as-signed, zero-minus, minus-mag}
+use Rattle.standard.proofs.Signed.{back, small, backed}
+use Rattle.bins.proofs.SmallNumbers.{as-signed, zero-minus, minus-mag}
 use Rattle.bins.proofs.offset.Statement.{statement}
 use Rattle.bins.proofs.offset.Tie as tie
 
@@ -19,13 +20,13 @@ kept : (c : tie.Then1) → back w32 (pos 0 -ℤ toZ w32 (c .before .args .v)) �
 kept c = ap (back w32) (negated c) ∙ backed w32 (negℤ (pos (c .before .args .v))) (omega (arith, minus-mag (c .before .args .v), c .before .pre))
 
 sub-result : tie.Need-sub-result
-sub-result c = subst (SFits w32) (sym (negated c)) (fits w32 _ (omega (arith, minus-mag (c .before .args .v), c .before .pre)))
+sub-result c = subst (SFits w32) (sym (negated c)) (small w32 _ (omega (arith, minus-mag (c .before .args .v), c .before .pre)))
 
 cast-result : tie.Need-cast-result
-cast-result c = subst (SFits w8) (sym (kept c)) (fits w8 _ (omega (arith, minus-mag (c .before .args .v), c .before .pre)))
+cast-result c = subst (SFits w8) (sym (kept c)) (small w8 _ (omega (arith, minus-mag (c .before .args .v), c .before .pre)))
 
 cast-result-2 : tie.Need-cast-result-2
-cast-result-2 c = subst (SFits w8) (sym (as-signed (c .before .args .v) (c .before .pre))) (fits w8 _ (c .before .pre))
+cast-result-2 c = subst (SFits w8) (sym (as-signed (c .before .args .v) (c .before .pre))) (small w8 _ (c .before .pre))
 
 returns : tie.Need-returns
 returns c =

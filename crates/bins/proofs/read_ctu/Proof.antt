@@ -5,9 +5,10 @@ use mathlib.Core.Option.{some}
 use denote.Ref.{now}
 use Rattle.standard.specs.Sets.{switchesOf}
 use Rattle.standard.specs.Bins.{binsOf}
+use Rattle.standard.specs.Means.{setOf}
 use Rattle.standard.proofs.Reader.{readCtu}
 use Rattle.bins.specs.declared.Form.{Form}
-use Rattle.bins.specs.Forms.{answerOf, nearOf, resolved}
+use Rattle.bins.specs.Forms.{answerOf, resolved}
 use Rattle.bins.proofs.Resolving.{same-answer, copied-there}
 use Rattle.bins.proofs.read_ctu.Statement.{statement}
 use Rattle.bins.proofs.read_ctu.Tie as tie
@@ -27,21 +28,21 @@ enum-told c = search needs
 -- the form that was read, which is f, gives the answer
 known-form : (c : tie.After-read-form) {f : Form} → c .read-form .result ≡ f
     → let a = c .before .before .before .before .args in
-    resolved f (nearOf (a .left)) (nearOf (a .up))
-    ≡ some (answerOf (readCtu (switchesOf (a .p)) (nearOf (a .left)) (nearOf (a .up)) (binsOf (now (a .bytes)) (a .count))))
+    resolved f (setOf (a .left)) (setOf (a .up))
+    ≡ some (answerOf (readCtu (switchesOf (a .p)) (setOf (a .left)) (setOf (a .up)) (binsOf (now (a .bytes)) (a .count))))
 known-form c e =
     let a = c .before .before .before .before .args in
-    sym (ap (λ (f : Form). resolved f (nearOf (a .left)) (nearOf (a .up))) e)
-    ∙ c .read-form .ensures (nearOf (a .left)) (nearOf (a .up)) (sym (c .before .before .is-there .ensures)) (sym (c .before .is-there2 .ensures))
+    sym (ap (λ (f : Form). resolved f (setOf (a .left)) (setOf (a .up))) e)
+    ∙ c .read-form .ensures (setOf (a .left)) (setOf (a .up)) (sym (c .before .before .is-there .ensures)) (sym (c .before .is-there2 .ensures))
 
 merged-requires : tie.Need-merged-requires
-merged-requires c κs = copied-there (nearOf (c .before .before .before .before .before .before .args .left)) (known-form (c .before .before) (c .enum-told .given .1))
+merged-requires c κs = copied-there (setOf (c .before .before .before .before .before .before .args .left)) (known-form (c .before .before) (c .enum-told .given .1))
 
 enum-told-2 : tie.Need-enum-told-2
 enum-told-2 c = search needs
 
 merged-requires-2 : tie.Need-merged-requires-2
-merged-requires-2 c κs = copied-there (nearOf (c .before .before .before .before .before .before .args .up)) (known-form (c .before .before) (c .enum-told2 .given .1))
+merged-requires-2 c κs = copied-there (setOf (c .before .before .before .before .before .before .args .up)) (known-form (c .before .before) (c .enum-told2 .given .1))
 
 enum-known-form : tie.Need-enum-known-form
 enum-known-form c = search needs

@@ -3,7 +3,8 @@ use borrow.Author.Needs.{needs}
 use native.Mathlib.Omega.{arith}
 use mir.Syntax.{w8, w32}
 use Rattle.standard.specs.Table.{offsetOf}
-use Rattle.sets.proofs.Signed.{small, backed, offset-mag, offset-computed}
+use Rattle.standard.proofs.Signed.{small, backed}
+use Rattle.sets.proofs.Signed.{offset-mag, offset-computed}
 use Rattle.blocks.proofs.offset.Statement.{statement}
 use Rattle.blocks.proofs.offset.Tie as tie
 

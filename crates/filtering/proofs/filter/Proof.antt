@@ -15,7 +15,7 @@ use Rattle.samples.specs.Blocks.{Legal}
 use Rattle.filtering.specs.declared.Ready.{Ready}
 use Rattle.filtering.specs.declared.Ready.the-variants.{Go}
 use Rattle.filtering.specs.Filtering.{Readied, Deep}
-use Rattle.filtering.proofs.Judging.{clear-before}
+use Rattle.standard.proofs.Parts.{clear-front}
 use Rattle.standard.proofs.Three.{plane-long, only-two}
 use Rattle.filtering.proofs.Filtering.{Called, called, not-above, block-filtered}
 use borrow.Author.Needs.{needs}
@@ -48,7 +48,7 @@ goes : (c : tie.After-p) → Answers (s c) (Go (c .before .before .set .given .0
 goes c = subst (Answers (s c)) (c .before .before .set .given .1) (c .before .before .before .before .filter-answer .ensures)
 
 ok : (c : tie.After-p) → let a = s c .args in Called (a .state) (a .component) (a .ctb) (L (s c)) (O (s c)) (now (a .marks)) (now (a .table))
-ok c = called (clear-before 4 (R (s c)) (goes c .0))
+ok c = called (clear-front 4 (R (s c)) (goes c .0))
 
 deep : (c : tie.After-p) → let a = s c .args in Deep (a .state .picture) (a .component) (a .ctb) (planeOf (L (s c)) (a .component))
 deep c =

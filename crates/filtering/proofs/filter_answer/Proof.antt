@@ -6,7 +6,8 @@ use lib.ListN.{take, drop}
 use Rattle.standard.specs.Refusals.{Reason, Clear}
 use Rattle.standard.specs.Reasons.{Planes, filterReasons}
 use Rattle.standard.specs.Contracts.{Judged}
-use Rattle.filtering.proofs.Judging.{first-before, first-after, readied-after}
+use Rattle.standard.proofs.Parts.{first-front, first-back}
+use Rattle.filtering.proofs.Judging.{readied-after}
 use Rattle.filtering.proofs.Filtering.{Called, called}
 use borrow.Author.Needs.{needs}
 use Rattle.filtering.proofs.filter_answer.Statement.{statement}
@@ -74,14 +75,14 @@ returns : tie.Need-returns
 returns c =
     let d = c .before .before .before in
     let a = start d in
-    first-before 4 (R a) _ (subst (Judged (take 4 (R a))) (c .before .r .given .1) (d .call-answer .ensures))
+    first-front 4 (R a) _ (subst (Judged (take 4 (R a))) (c .before .r .given .1) (d .call-answer .ensures))
 
 returns-2 : tie.Need-returns-2
 returns-2 c =
     let d = c .before .before .before in
     let a = s (d .before) in
-    first-after 4 (R a) _ (clear-4 (d .before))
-    (first-before 3 (drop 4 (R a)) _
+    first-back 4 (R a) _ (clear-4 (d .before))
+    (first-front 3 (drop 4 (R a)) _
     (subst (Judged (take 3 (drop 4 (R a)))) (c .before .r2 .given .1) (d .marks-answer .ensures (L a) (O a) (now (a .args .table)))))
 
 returns-3 : tie.Need-returns-3

@@ -40,7 +40,9 @@ returns : tie.Need-returns
 returns c = λ deblocked filtered table. inl ((let t = told (c .before .waited-outside .ensures) (c .if1 .taken) in (t .0, t .1, above-two (t .2))), refl)
 
 mark-of-requires : tie.Need-mark-of-requires
-mark-of-requires c κs = search needs
+mark-of-requires c κs =
+    let n = s1 c .pre .0 in
+    (n .rules, s1 c .pre .1, n .component, n .ctb)
 
 returns-2 : tie.Need-returns-2
 returns-2 c = λ deblocked filtered table. inr (not-above (c .before .before) table, inl (sym (c .before .mark-of .ensures) ∙ c .if2 .taken, refl))

@@ -1,21 +1,22 @@
 use mathlib.Core.Path.{refl}
 use native.Mathlib.Omega.{arith}
-use Rattle.planes.proofs.Raster.{index-lt, area}
+use Rattle.standard.proofs.Rasters.{index-lt}
+use Rattle.planes.proofs.Raster.{area}
 use Rattle.planes.proofs.index.Statement.{statement}
 use Rattle.planes.proofs.index.Tie as tie
 use Rattle.planes.proofs.index.Reads as reads
 use Rattle.planes.proofs.index.Lts as lts
 
 mul-result : tie.Need-mul-result
-mul-result c = omega (arith, index-lt (c .args .w) (c .args .h) (c .args .x) (c .args .y) (c .pre .2) (c .pre .3), area (c .args .w) (c .args .h) (c .pre .0) (c .pre .1))
+mul-result c = omega (arith, index-lt (c .pre .2) (c .pre .3), area (c .args .w) (c .args .h) (c .pre .0) (c .pre .1))
 
 add-result : tie.Need-add-result
-add-result c = omega (arith, index-lt (c .args .w) (c .args .h) (c .args .x) (c .args .y) (c .pre .2) (c .pre .3), area (c .args .w) (c .args .h) (c .pre .0) (c .pre .1))
+add-result c = omega (arith, index-lt (c .pre .2) (c .pre .3), area (c .args .w) (c .args .h) (c .pre .0) (c .pre .1))
 
 returns : tie.Need-returns
 returns c = record {
   place = refl;
-  inside = index-lt (c .args .w) (c .args .h) (c .args .x) (c .args .y) (c .pre .2) (c .pre .3);
+  inside = index-lt (c .pre .2) (c .pre .3);
   area = area (c .args .w) (c .args .h) (c .pre .0) (c .pre .1);
 }
 

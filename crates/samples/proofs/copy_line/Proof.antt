@@ -9,7 +9,7 @@ use Rattle.samples.proofs.copy_line.Tie as tie
 use Rattle.samples.proofs.copy_line.Reads as reads
 use Rattle.samples.proofs.copy_line.Lts as lts
 use Rattle.planes.proofs.index.Reads as index-reads
-use Rattle.rows.proofs.copy_row.Reads as copy-row-reads
+use Rattle.planes.proofs.copy_row.Reads as copy-row-reads
 
 index-requires : tie.Need-index-requires
 index-requires c κs = search needs

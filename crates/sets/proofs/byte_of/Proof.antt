@@ -3,7 +3,7 @@ use mathlib.Core.Path.{ap}
 use native.Mathlib.Omega.{arith}
 use lib.IntN.{natAbs}
 use mir.Syntax.{w8, w32}
-use Rattle.sets.proofs.Signed.{small, backed, byte-fits, byte-computed, byte-lt}
+use Rattle.standard.proofs.Signed.{small, backed, byte-fits, byte-computed, byte-lt}
 use Rattle.sets.proofs.byte_of.Statement.{statement}
 use Rattle.sets.proofs.byte_of.Tie as tie
 

@@ -4,7 +4,7 @@ use mathlib.Core.Path.{refl}
 use mir.Syntax.{w8}
 use Rattle.standard.specs.declared.Offsets.the-variants.{Off, Band, Edge}
 use Rattle.standard.specs.Table.{encodeOffsets}
-use Rattle.sets.proofs.Signed.{backed}
+use Rattle.standard.proofs.Signed.{backed}
 use Rattle.sets.proofs.Bytes.{coded, four-small}
 use Rattle.sets.proofs.bytes_of.Statement.{statement}
 use Rattle.sets.proofs.bytes_of.Tie as tie

@@ -4,7 +4,7 @@ use mathlib.Core.Path.{sym, _∙_}
 use native.Mathlib.Omega.{arith}
 use Rattle.standard.specs.declared.Offsets.the-variants.{Band, Edge}
 use Rattle.sets.proofs.Bytes.{says-off, says-band, says-edge}
-use Rattle.sets.proofs.Signed.{four-back}
+use Rattle.sets.proofs.Signed.{four-are}
 use Rattle.sets.proofs.offsets_of.Statement.{statement}
 use Rattle.sets.proofs.offsets_of.Tie as tie
 
@@ -26,7 +26,7 @@ offset-of-requires-4 c κs = search needs
 returns-2 : tie.Need-returns-2
 returns-2 c =
     let s = c .before .before .before .before .before .before .args .s in
-    four-back (Band (s .place))
+    four-are (Band (s .place))
     (c .before .before .before .before .offset-of .ok) (c .before .before .before .offset-of2 .ok) (c .before .before .offset-of3 .ok) (c .before .offset-of4 .ok)
     (c .before .before .before .before .offset-of .ensures) (c .before .before .before .offset-of2 .ensures) (c .before .before .offset-of3 .ensures) (c .before .offset-of4 .ensures)
     ∙ sym (says-band s (c .if2 .taken))
@@ -34,7 +34,7 @@ returns-2 c =
 returns-3 : tie.Need-returns-3
 returns-3 c =
     let s = c .before .before .before .before .before .before .args .s in
-    four-back (Edge (s .place))
+    four-are (Edge (s .place))
     (c .before .before .before .before .offset-of .ok) (c .before .before .before .offset-of2 .ok) (c .before .before .offset-of3 .ok) (c .before .offset-of4 .ok)
     (c .before .before .before .before .offset-of .ensures) (c .before .before .before .offset-of2 .ensures) (c .before .before .offset-of3 .ensures) (c .before .offset-of4 .ensures)
     ∙ sym (says-edge s (omega arith))

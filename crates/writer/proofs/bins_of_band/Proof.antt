@@ -6,7 +6,7 @@ use lib.IntN.{ℤ}
 use lib.ListN.{length}
 use mir.Syntax.{w8}
 use Rattle.standard.specs.Bins.{magnitudes, signBins}
-use Rattle.sink.proofs.Signed.{backed, four-back}
+use Rattle.standard.proofs.Signed.{backed, four-back}
 use Rattle.writer.proofs.Lengths.{rest-band}
 use Rattle.writer.proofs.bins_of_band.Statement.{statement}
 use Rattle.writer.proofs.bins_of_band.Tie as tie

@@ -7,9 +7,9 @@ use native.Mathlib.Omega.{arith}
 use lib.ListN.{length, length-append}
 use Rattle.standard.specs.Sets.{switchesOf}
 use Rattle.standard.specs.Bins.{full}
-use Rattle.standard.specs.Means.{notTaken}
+use Rattle.standard.specs.Means.{setOf, notTaken}
 use Rattle.writer.specs.declared.Form.{Form}
-use Rattle.writer.specs.Forms.{setOf, formBins}
+use Rattle.writer.specs.Forms.{formBins}
 use Rattle.writer.proofs.Lengths.{three-length}
 use Rattle.writer.proofs.bins_of_form.Statement.{statement}
 use Rattle.writer.proofs.bins_of_form.Tie as tie

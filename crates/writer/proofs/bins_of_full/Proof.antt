@@ -12,19 +12,19 @@ use Rattle.writer.proofs.bins_of_full.Reads as reads
 use Rattle.writer.proofs.bins_of_full.Lts as lts
 use Rattle.writer.proofs.bins_of_chroma.Reads as bins-of-chroma-reads
 use Rattle.writer.proofs.bins_of_luma.Reads as bins-of-luma-reads
-use Rattle.writer.proofs.most.Reads as most-reads
+use Rattle.geometry.proofs.most_of.Reads as most-of-reads
 
-most-requires : tie.Need-most-requires
-most-requires c κs = search needs
+most-of-requires : tie.Need-most-of-requires
+most-of-requires c κs = search needs
 
 bins-of-luma-requires : tie.Need-bins-of-luma-requires
 bins-of-luma-requires c κs = search needs
 
-most-requires-2 : tie.Need-most-requires-2
-most-requires-2 c κs = search needs
+most-of-requires-2 : tie.Need-most-of-requires-2
+most-of-requires-2 c κs = search needs
 
-most-requires-3 : tie.Need-most-requires-3
-most-requires-3 c κs = search needs
+most-of-requires-3 : tie.Need-most-of-requires-3
+most-of-requires-3 c κs = search needs
 
 bins-of-chroma-requires : tie.Need-bins-of-chroma-requires
 bins-of-chroma-requires c κs = search needs
@@ -35,18 +35,18 @@ add-result c = search needs
 returns : tie.Need-returns
 returns c =
     let a = c .before .before .before .before .before .args in
-    let luma = ap (λ (m : ℕ). length (lumaBins (a .p .luma) m (a .q .luma))) (c .before .before .before .before .most .ensures .0) in
-    let chroma = ap₂ (λ (m n : ℕ). length (chromaBins (a .p .chroma) m (a .q .cb) n (a .q .cr))) (c .before .before .most2 .ensures .0) (c .before .most3 .ensures .0) in
+    let luma = ap (λ (m : ℕ). length (lumaBins (a .p .luma) m (a .q .luma))) (c .before .before .before .before .most-of .ensures .0) in
+    let chroma = ap₂ (λ (m n : ℕ). length (chromaBins (a .p .chroma) m (a .q .cb) n (a .q .cr))) (c .before .before .most-of2 .ensures .0) (c .before .most-of3 .ensures .0) in
     (omega (arith, c .before .before .before .bins-of-luma .ensures .0, luma, c .bins-of-chroma .ensures .0, chroma, full-parts (switchesOf (a .p)) (a .q)), omega (arith, c .before .before .before .bins-of-luma .ensures .1, c .bins-of-chroma .ensures .1))
 
 pub bins-of-full-spec : {M : Type 1} → statement M
 bins-of-full-spec =
     tie.close
     (tie.spec
-    most-requires
+    most-of-requires
     bins-of-luma-requires
-    most-requires-2
-    most-requires-3
+    most-of-requires-2
+    most-of-requires-3
     bins-of-chroma-requires
     add-result
     returns)

@@ -6,7 +6,7 @@ use native.Mathlib.Omega.{arith}
 use lib.IntN.{natAbs}
 use mir.Syntax.{w8}
 use Rattle.sink.proofs.Bits.{truncated-length-part, truncated-length-full}
-use Rattle.sink.proofs.Signed.{backed}
+use Rattle.standard.proofs.Signed.{backed}
 use Rattle.writer.proofs.bins_of_magnitude.Statement.{statement}
 use Rattle.writer.proofs.bins_of_magnitude.Tie as tie
 use Rattle.writer.proofs.bins_of_magnitude.Reads as reads

@@ -7,7 +7,7 @@ use lib.ListN.{length}
 use mir.Syntax.{w8}
 use Rattle.standard.specs.Bins.{truncated}
 use Rattle.standard.proofs.Longest.{magnitudes-length}
-use Rattle.sink.proofs.Signed.{backed}
+use Rattle.standard.proofs.Signed.{backed}
 use Rattle.writer.proofs.bins_of_magnitudes.Statement.{statement}
 use Rattle.writer.proofs.bins_of_magnitudes.Tie as tie
 use Rattle.writer.proofs.bins_of_magnitudes.Reads as reads

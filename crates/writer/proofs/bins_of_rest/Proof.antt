@@ -5,7 +5,8 @@ use native.Mathlib.Omega.{arith}
 use lib.ListN.{length}
 use Rattle.standard.specs.declared.Offsets.{Offsets}
 use Rattle.standard.specs.Bins.{magnitudes, rest}
-use Rattle.sink.proofs.Signed.{four-back, bandRest}
+use Rattle.standard.proofs.Signed.{four-back}
+use Rattle.sink.proofs.Signed.{bandRest}
 use Rattle.writer.proofs.Lengths.{rest-off, rest-edge}
 use Rattle.writer.proofs.bins_of_rest.Statement.{statement}
 use Rattle.writer.proofs.bins_of_rest.Tie as tie

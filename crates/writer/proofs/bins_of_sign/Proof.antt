@@ -4,7 +4,7 @@ use mathlib.Core.Path.{sym, ap, _∙_}
 use native.Mathlib.Omega.{arith}
 use lib.IntN.{natAbs}
 use mir.Syntax.{w8}
-use Rattle.sink.proofs.Signed.{backed}
+use Rattle.standard.proofs.Signed.{backed}
 use Rattle.writer.proofs.Lengths.{sign-none, sign-one}
 use Rattle.writer.proofs.bins_of_sign.Statement.{statement}
 use Rattle.writer.proofs.bins_of_sign.Tie as tie

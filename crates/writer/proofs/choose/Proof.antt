@@ -6,7 +6,7 @@ use Rattle.writer.proofs.choose.Statement.{statement}
 use Rattle.writer.proofs.choose.Tie as tie
 use Rattle.writer.proofs.choose.Reads as reads
 use Rattle.writer.proofs.choose.Lts as lts
-use Rattle.writer.proofs.any_on.Reads as any-on-reads
+use Rattle.geometry.proofs.any_on.Reads as any-on-reads
 use Rattle.writer.proofs.is_copy.Reads as is-copy-reads
 
 any-on-requires : tie.Need-any-on-requires

@@ -3,15 +3,15 @@ use borrow.Author.Needs.{needs}
 use mathlib.Core.Path.{sym, _∙_}
 use borrow.Author.Tests.{not-true, not-false}
 use Rattle.standard.specs.Sets.{switchesOf}
+use Rattle.standard.specs.Means.{setOf}
 use Rattle.standard.proofs.Answers.{told, told-not}
-use Rattle.writer.specs.Forms.{setOf}
 use Rattle.writer.proofs.Chosen.{is-copy, as-left, ruled, has-meant, unmeant-off, meant-by-up}
 use Rattle.writer.proofs.has_bins.Statement.{statement}
 use Rattle.writer.proofs.has_bins.Tie as tie
 use Rattle.writer.proofs.has_bins.Reads as reads
 use Rattle.writer.proofs.has_bins.Lts as lts
 use Rattle.sets.proofs.is_valid.Reads as is-valid-reads
-use Rattle.writer.proofs.any_on.Reads as any-on-reads
+use Rattle.geometry.proofs.any_on.Reads as any-on-reads
 use Rattle.writer.proofs.is_copy.Reads as is-copy-reads
 
 is-valid-requires : tie.Need-is-valid-requires

@@ -1,8 +1,9 @@
 -- What tells whether two sets are equal decides it.
 use borrow.Author.Needs.{needs}
 use mathlib.Core.Path.{sym, ap, _∙_}
-use Rattle.writer.specs.declared.Near.{Near}
-use Rattle.writer.specs.Forms.{setOf, copies}
+use Rattle.standard.specs.declared.Near.{Near}
+use Rattle.standard.specs.Means.{setOf}
+use Rattle.writer.specs.Forms.{copies}
 use Rattle.writer.proofs.Chosen.{copies-some}
 use Rattle.writer.proofs.is_copy.Statement.{statement}
 use Rattle.writer.proofs.is_copy.Tie as tie

@@ -13,31 +13,31 @@ use Rattle.writer.proofs.put_full.Reads as reads
 use Rattle.writer.proofs.put_full.Lts as lts
 use Rattle.sink.proofs.Put.chroma.Reads as chroma-reads
 use Rattle.sink.proofs.Put.luma.Reads as luma-reads
-use Rattle.writer.proofs.most.Reads as most-reads
+use Rattle.geometry.proofs.most_of.Reads as most-of-reads
 
-most-requires : tie.Need-most-requires
-most-requires c κs = search needs
+most-of-requires : tie.Need-most-of-requires
+most-of-requires c κs = search needs
 
 luma-requires : tie.Need-luma-requires
 unfolding full
 luma-requires c κs =
     let s = c .before .before .before in
     let a = s .args in
-    (room-as (ap (λ (m : ℕ). length (lumaBins (a .p .luma) m (a .q .luma))) (c .most .ensures .0)) (room-first (lumaBins (a .p .luma) (most (switchesOf (a .p)) 0) (a .q .luma)) (chromaBins (a .p .chroma) (most (switchesOf (a .p)) 1) (a .q .cb) (most (switchesOf (a .p)) 2) (a .q .cr)) (s .pre .0)), c .most .ensures .1)
+    (room-as (ap (λ (m : ℕ). length (lumaBins (a .p .luma) m (a .q .luma))) (c .most-of .ensures .0)) (room-first (lumaBins (a .p .luma) (most (switchesOf (a .p)) 0) (a .q .luma)) (chromaBins (a .p .chroma) (most (switchesOf (a .p)) 1) (a .q .cb) (most (switchesOf (a .p)) 2) (a .q .cr)) (s .pre .0)), c .most-of .ensures .1)
 
-most-requires-2 : tie.Need-most-requires-2
-most-requires-2 c κs = search needs
+most-of-requires-2 : tie.Need-most-of-requires-2
+most-of-requires-2 c κs = search needs
 
-most-requires-3 : tie.Need-most-requires-3
-most-requires-3 c κs = search needs
+most-of-requires-3 : tie.Need-most-of-requires-3
+most-of-requires-3 c κs = search needs
 
 chroma-requires : tie.Need-chroma-requires
 unfolding full
 chroma-requires c κs =
     let s = c .before .before .before .before .before .before .before .before .before in
     let a = s .args in
-    let p = puts-as (ap (λ (m : ℕ). lumaBins (a .p .luma) m (a .q .luma)) (c .before .before .before .before .before .before .most .ensures .0)) (c .before .before .before .before .before .luma .ensures) in
-    (room-as (ap₂ (λ (m n : ℕ). length (chromaBins (a .p .chroma) m (a .q .cb) n (a .q .cr))) (c .before .most2 .ensures .0) (c .most3 .ensures .0)) (room-rest (lumaBins (a .p .luma) (most (switchesOf (a .p)) 0) (a .q .luma)) (chromaBins (a .p .chroma) (most (switchesOf (a .p)) 1) (a .q .cb) (most (switchesOf (a .p)) 2) (a .q .cr)) (s .pre .0) p), (c .before .most2 .ensures .1, c .most3 .ensures .1))
+    let p = puts-as (ap (λ (m : ℕ). lumaBins (a .p .luma) m (a .q .luma)) (c .before .before .before .before .before .before .most-of .ensures .0)) (c .before .before .before .before .before .luma .ensures) in
+    (room-as (ap₂ (λ (m n : ℕ). length (chromaBins (a .p .chroma) m (a .q .cb) n (a .q .cr))) (c .before .most-of2 .ensures .0) (c .most-of3 .ensures .0)) (room-rest (lumaBins (a .p .luma) (most (switchesOf (a .p)) 0) (a .q .luma)) (chromaBins (a .p .chroma) (most (switchesOf (a .p)) 1) (a .q .cb) (most (switchesOf (a .p)) 2) (a .q .cr)) (s .pre .0) p), (c .before .most-of2 .ensures .1, c .most-of3 .ensures .1))
 
 same-length : tie.Need-same-length
 same-length c = search needs
@@ -46,16 +46,16 @@ returns : tie.Need-returns
 unfolding full
 returns c =
     let a = c .before .before .before .before .before .before .before .before .before .before .before .before .args in
-    puts-then (puts-as (ap (λ (m : ℕ). lumaBins (a .p .luma) m (a .q .luma)) (c .before .before .before .before .before .before .before .before .before .most .ensures .0)) (c .before .before .before .before .before .before .before .before .luma .ensures)) (puts-as (ap₂ (λ (m n : ℕ). chromaBins (a .p .chroma) m (a .q .cb) n (a .q .cr)) (c .before .before .before .before .most2 .ensures .0) (c .before .before .before .most3 .ensures .0)) (c .before .before .chroma .ensures))
+    puts-then (puts-as (ap (λ (m : ℕ). lumaBins (a .p .luma) m (a .q .luma)) (c .before .before .before .before .before .before .before .before .before .most-of .ensures .0)) (c .before .before .before .before .before .before .before .before .luma .ensures)) (puts-as (ap₂ (λ (m n : ℕ). chromaBins (a .p .chroma) m (a .q .cb) n (a .q .cr)) (c .before .before .before .before .most-of2 .ensures .0) (c .before .before .before .most-of3 .ensures .0)) (c .before .before .chroma .ensures))
 
 pub put-full-spec : {M : Type 1} → statement M
 put-full-spec =
     tie.close
     (tie.spec
-    most-requires
+    most-of-requires
     luma-requires
-    most-requires-2
-    most-requires-3
+    most-of-requires-2
+    most-of-requires-3
     chroma-requires
     same-length
     returns)

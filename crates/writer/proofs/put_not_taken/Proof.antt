@@ -3,11 +3,10 @@ use borrow.Author.Needs.{needs}
 use mathlib.Core.Path.{sym, ap}
 use native.Mathlib.Omega.{arith}
 use lib.ListN.{length}
+use Rattle.standard.specs.declared.Near.{Near}
 use Rattle.standard.specs.Bins.{fixedLength}
-use Rattle.standard.specs.Means.{notTaken}
+use Rattle.standard.specs.Means.{setOf, notTaken}
 use Rattle.sink.proofs.Packed.{puts-none, puts-as, room-as}
-use Rattle.writer.specs.declared.Near.{Near}
-use Rattle.writer.specs.Forms.{setOf}
 use Rattle.writer.proofs.put_not_taken.Statement.{statement}
 use Rattle.writer.proofs.put_not_taken.Tie as tie
 use Rattle.writer.proofs.put_not_taken.Reads as reads

@@ -2,6 +2,7 @@
 use mathlib.Core.Path.{_≡_, refl, sym, ap, subst}
 use borrow.Author.Needs.{needs}
 use denote.Ref.{now}
+use Rattle.standard.specs.declared.Near.the-variants as beside
 use Rattle.standard.specs.Sets.{switchesOf}
 use Rattle.geometry.specs.declared.Near.{Near}
 use Rattle.geometry.specs.Geometry.{nearOf}
@@ -10,7 +11,6 @@ use Rattle.sets.specs.declared.Found.{Found}
 use Rattle.sets.specs.Entries.{Finds}
 use Rattle.sets.proofs.Finding.{sound-of, found-stored}
 use mathlib.Core.Option.{some}
-use Rattle.writer.specs.declared.Near.the-variants as beside
 use Rattle.writing.specs.declared.Side.{Side}
 use Rattle.writing.specs.declared.Side.the-variants as side
 use Rattle.writing.specs.Writing.{Beside}

@@ -3,9 +3,10 @@ use mathlib.Core.Path.{_≡_, refl, subst}
 use borrow.Author.Needs.{needs}
 use denote.Ref.{now}
 use Rattle.standard.specs.Sets.{switchesOf}
+use Rattle.standard.specs.Means.{setOf}
 use Rattle.standard.proofs.Answers.{passed, failed}
 use Rattle.writer.specs.declared.Wrote.{Wrote}
-use Rattle.writer.specs.Forms.{setOf, Meant, written}
+use Rattle.writer.specs.Forms.{Meant, written}
 use Rattle.writer.specs.Outcome.{Writes}
 use Rattle.writing.proofs.Setting.{no-bins, no-room, spelled}
 use Rattle.writing.proofs.set_written.Statement.{statement}

@@ -11,7 +11,7 @@ use Rattle.bins.specs.Reads.{took, Reads}
 use Rattle.bins.specs.Views.{four, fourTaken}
 use Rattle.bins.proofs.Readers.{edge-offsets-read}
 use Rattle.bins.proofs.Steps.{known, read-as, valued, value-holds, then-cut, mapped-took}
-use Rattle.bins.proofs.SmallNumbers.{backed}
+use Rattle.standard.proofs.Signed.{backed}
 use Rattle.bins.proofs.Cursor.edge_offsets.Statement.{statement}
 use Rattle.bins.proofs.Cursor.edge_offsets.Tie as tie
 

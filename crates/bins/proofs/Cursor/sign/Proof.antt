@@ -7,7 +7,7 @@ use mir.Syntax.{w8}
 use Rattle.bins.specs.Views.{flagTaken}
 use Rattle.bins.proofs.Readers.{sign-none, sign-some}
 use Rattle.bins.proofs.Steps.{made, read-as, known, valued, then-cut, mapped-took}
-use Rattle.bins.proofs.SmallNumbers.{backed}
+use Rattle.standard.proofs.Signed.{backed}
 use Rattle.bins.proofs.Cursor.sign.Statement.{statement}
 use Rattle.bins.proofs.Cursor.sign.Tie as tie
 

@@ -5,7 +5,7 @@ use native.Mathlib.Omega.{arith}
 use Prim.Native.Nat.{ℕ, _-_, _*_, _/_, _%_, _^_}
 use denote.Ref.{now}
 use Rattle.standard.specs.Bins.{bitsOf}
-use Rattle.bins.proofs.Bits.{number-lt}
+use Rattle.standard.proofs.Bits.{number-lt}
 use Rattle.bins.proofs.Fetch.{window-number, bins-cut, bins-whole}
 use Rattle.bins.proofs.Cursor.window.Statement.{statement}
 use Rattle.bins.proofs.Cursor.window.Tie as tie

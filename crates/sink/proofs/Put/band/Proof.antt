@@ -7,7 +7,7 @@ use lib.ListN.{length}
 use Rattle.standard.specs.Bins.{fixedLength, magnitudes, signs, rest}
 use Rattle.standard.proofs.Longest.{fixed-length}
 use Rattle.sink.proofs.Packed.{puts-then, puts-as, room-as, room-first, room-rest}
-use Rattle.sink.proofs.Signed.{four-back}
+use Rattle.standard.proofs.Signed.{four-back}
 use Rattle.sink.proofs.Put.band.Statement.{statement}
 use Rattle.sink.proofs.Put.band.Tie as tie
 use Rattle.sink.proofs.Put.band.Reads as reads

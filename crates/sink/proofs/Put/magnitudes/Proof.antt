@@ -7,7 +7,7 @@ use lib.IntN.{natAbs}
 use mir.Syntax.{w8}
 use Rattle.standard.specs.Bins.{truncated, magnitudes}
 use Rattle.sink.proofs.Packed.{puts-then, puts-as, room-as, room-first, room-rest}
-use Rattle.sink.proofs.Signed.{backed}
+use Rattle.standard.proofs.Signed.{backed}
 use Rattle.sink.proofs.Put.magnitudes.Statement.{statement}
 use Rattle.sink.proofs.Put.magnitudes.Tie as tie
 use Rattle.sink.proofs.Put.magnitudes.Reads as reads

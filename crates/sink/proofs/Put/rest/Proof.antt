@@ -7,7 +7,8 @@ use Rattle.standard.specs.declared.Offsets.{Offsets}
 use Rattle.standard.specs.Bins.{fixedLength, magnitudes, rest}
 use Rattle.standard.proofs.Longest.{fixed-length}
 use Rattle.sink.proofs.Packed.{puts-none, puts-then, puts-as, room-as, room-first, room-rest}
-use Rattle.sink.proofs.Signed.{four-back, bandRest}
+use Rattle.standard.proofs.Signed.{four-back}
+use Rattle.sink.proofs.Signed.{bandRest}
 use Rattle.sink.proofs.Put.rest.Statement.{statement}
 use Rattle.sink.proofs.Put.rest.Tie as tie
 use Rattle.sink.proofs.Put.rest.Reads as reads

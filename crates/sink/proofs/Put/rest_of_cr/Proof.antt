@@ -5,7 +5,8 @@ use lib.ListN.{length}
 use Rattle.standard.specs.declared.Offsets.{Offsets}
 use Rattle.standard.specs.Bins.{magnitudes, rest, restOfCr}
 use Rattle.sink.proofs.Packed.{puts-none, puts-as, room-as}
-use Rattle.sink.proofs.Signed.{four-back, bandRest}
+use Rattle.standard.proofs.Signed.{four-back}
+use Rattle.sink.proofs.Signed.{bandRest}
 use Rattle.sink.proofs.Put.rest_of_cr.Statement.{statement}
 use Rattle.sink.proofs.Put.rest_of_cr.Tie as tie
 use Rattle.sink.proofs.Put.rest_of_cr.Reads as reads

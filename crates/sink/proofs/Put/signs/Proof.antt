@@ -6,7 +6,7 @@ use lib.ListN.{length}
 use mir.Syntax.{w8}
 use Rattle.standard.specs.Bins.{signBins, signs}
 use Rattle.sink.proofs.Packed.{puts-then, puts-as, room-as, room-first, room-rest}
-use Rattle.sink.proofs.Signed.{backed}
+use Rattle.standard.proofs.Signed.{backed}
 use Rattle.sink.proofs.Put.signs.Statement.{statement}
 use Rattle.sink.proofs.Put.signs.Tie as tie
 use Rattle.sink.proofs.Put.signs.Reads as reads

@@ -1,22 +1,30 @@
--- Bins that are packed into bytes are read from them again.
+-- Bins that are packed into bytes are read from them again; and how many bits bytes have.
 use mathlib.Core.Path.{_≡_, refl, sym, ap, _∙_}
 use mathlib.Core.Bool.{Bool, true, false}
 use mathlib.Core.List.{List, [], _∷_, _++_, append-assoc}
-use Prim.Native.Nat.{ℕ, zero, suc, _+_, _-_, _*_, _/_, _^_, _≤_, _<_}
-use native.Mathlib.Nat.{sub-zero, zero-sub, suc-sub-suc, two-pow-succ, zero-lt-suc}
+use Prim.Native.Nat.{ℕ, zero, suc, _+_, _-_, _*_, _/_, _≤_}
+use native.Mathlib.Nat.{sub-zero, zero-sub, suc-sub-suc}
 use native.Mathlib.Omega.{arith}
-use lib.Pow.{pow-pos}
 use lib.ListN.{length, take, drop, length-drop}
 use lib.Seq.{take-add, take-nil, take-all, take-append-le}
 use Rattle.standard.specs.Bins.{fixedLength, bitsOf, binsOf, number, bytesOf, packed}
+use Rattle.standard.proofs.Bits.{number-lt}
 use Rattle.standard.proofs.Elements.{high-one, high-zero}
 
-number-lt : (n : ℕ) (bins : List Bool) → number n bins < 2 ^ n
-unfolding number
-number-lt zero bins = zero-lt-suc zero
-number-lt (suc n) [] = pow-pos (suc n)
-number-lt (suc n) (true ∷ bins) = omega (arith, number-lt n bins, two-pow-succ n)
-number-lt (suc n) (false ∷ bins) = omega (arith, number-lt n bins, two-pow-succ n)
+pub bits-length : (bytes : List ℕ) → length (bitsOf bytes) ≡ 8 * length bytes
+unfolding bitsOf fixedLength
+bits-length [] = refl
+bits-length (b ∷ bytes) = omega (arith, bits-length bytes)
+
+bits-append : (a b : List ℕ) → bitsOf (a ++ b) ≡ bitsOf a ++ bitsOf b
+unfolding bitsOf
+bits-append [] b = refl
+bits-append (x ∷ a) b = ap (λ (l : List Bool). fixedLength 8 x ++ l) (bits-append a b) ∙ sym (append-assoc (fixedLength 8 x) (bitsOf a) (bitsOf b))
+
+pub bytes-length : (n : ℕ) (bins : List Bool) → length (bytesOf n bins) ≡ n
+unfolding bytesOf
+bytes-length zero bins = refl
+bytes-length (suc n) bins = ap suc (bytes-length n (drop 8 bins))
 
 -- as many bits as there are bins, of the number of the first n and what follows it
 front : (n : ℕ) (bins more : List Bool) → take (length bins) (fixedLength n (number n bins) ++ more) ≡ take n bins ++ take (length bins - n) more
@@ -42,21 +50,6 @@ bytes-back (suc n) bins =
     ∙ ap (λ (l : List Bool). take 8 bins ++ l) (bytes-back n (drop 8 bins))
     ∙ sym (take-add 8 (8 * n) bins)
     ∙ ap (λ (k : ℕ). take k bins) e
-
-bytes-length : (n : ℕ) (bins : List Bool) → length (bytesOf n bins) ≡ n
-unfolding bytesOf
-bytes-length zero bins = refl
-bytes-length (suc n) bins = ap suc (bytes-length n (drop 8 bins))
-
-bits-length : (bytes : List ℕ) → length (bitsOf bytes) ≡ 8 * length bytes
-unfolding bitsOf fixedLength
-bits-length [] = refl
-bits-length (b ∷ bytes) = omega (arith, bits-length bytes)
-
-bits-append : (a b : List ℕ) → bitsOf (a ++ b) ≡ bitsOf a ++ bitsOf b
-unfolding bitsOf
-bits-append [] b = refl
-bits-append (x ∷ a) b = ap (λ (l : List Bool). fixedLength 8 x ++ l) (bits-append a b) ∙ sym (append-assoc (fixedLength 8 x) (bitsOf a) (bitsOf b))
 
 pub packed-back : (bins : List Bool) (out : List ℕ) → binsOf (packed bins out) (length bins) ≡ bins
 unfolding binsOf packed

@@ -3,10 +3,10 @@ use mathlib.Core.Path.{ap}
 use Prim.Native.Nat.{ℕ, _-_}
 use native.Mathlib.Omega.{arith}
 use lib.Pow.{pow-pos, pow-mono}
-use Rattle.geometry.proofs.Counts.{shifted}
+use Rattle.planes.proofs.Scans.{shifted}
 use borrow.Author.Needs.{needs}
-use Rattle.geometry.proofs.top_of.Statement.{statement}
-use Rattle.geometry.proofs.top_of.Tie as tie
+use Rattle.planes.proofs.top_of.Statement.{statement}
+use Rattle.planes.proofs.top_of.Tie as tie
 
 shl-result : tie.Need-shl-result
 shl-result c = search needs

@@ -109,7 +109,7 @@ fn shift_of(p: Picture, component: u8) -> u32
     depth - coded_depth(depth)
 }
 
-// M: 2 to the power of ( Min( bitDepth, 10 ) - 5 ), minus 1 (9.3.3); below 5 bits it is 0.
+// M: 2 to the power of ( Min( bitDepth, 10 ) - 5 ), minus 1 (9.3.3); up to 5 bits it is 0.
 fn largest_magnitude(depth: u32) -> u32
     ensures { λ r. ⌜ r ≡ largest depth ⌝ }
 {

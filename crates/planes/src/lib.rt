@@ -152,8 +152,8 @@ fn pair_above(plane: &[u16], w: usize, h: usize, x: usize, y: usize, b: usize, t
     plane[k] > top
 }
 
-// Whether a sample of the rectangle is above the top. Two rows whose samples stay below it together
-// are passed over; in any others the scan goes column by column, and stops at the first that is not.
+// Whether a sample of the rectangle is above the top. Two rows are passed over where their samples,
+// ORed together, are not; in others the scan goes column by column, and stops at the first that is.
 pub fn some_above(plane: &[u16], w: usize, h: usize, r: Rectangle, top: u16) -> bool
     requires { ⌜ Placed w h r × (length (now plane) ≡ w * h) ⌝ }
     ensures { λ t. ⌜ Tells (BlockAbove (now (plane .entry)) w r top) t ⌝ }

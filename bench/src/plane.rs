@@ -5,8 +5,8 @@ use std::ops::{Deref, DerefMut, Range};
 /// Bytes of a line.
 const LINE: usize = 64;
 
-/// Samples that are asked for at the least. So much memory comes fresh from the system, at pages of its choice, where the
-/// caches may suit it better or worse than at those of the plane before; what is not used of it costs nothing.
+/// Samples that are asked for at the least. So much memory comes fresh from the system, at other pages than the plane
+/// before had; what is not used of it costs nothing.
 const FRESH: usize = 1 << 25;
 
 /// Samples whose first stands some bytes after the start of a line.

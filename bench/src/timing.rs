@@ -19,8 +19,8 @@ impl Patience {
         }
     }
 
-    /// The repetitions in rounds, for a table whose lines take turns, in fresh memory each time: a machine that is slow for
-    /// some seconds, or pages that suit its caches badly, spoil no line in every round.
+    /// The repetitions in rounds, for a table whose lines take turns, in fresh memory each time, so that what is slow for
+    /// some seconds, or in some place, is not slow for a line in every round.
     pub fn rounds(self) -> impl Iterator<Item = Range<usize>> {
         let (rounds, each) = match self {
             Patience::Quick => (2, 3),

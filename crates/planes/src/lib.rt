@@ -84,7 +84,7 @@ fn or_row(samples: &[u16]) -> u16
     v
 }
 
-// Two rows ORed together. A row and the next at once take half the time of one after the other.
+// Two rows ORed together. A row and the next at once take less time than one after the other.
 fn or_rows(a: &[u16], b: &[u16]) -> u16
     requires { ⌜ length (now b) ≡ length (now a) ⌝ }
     ensures { λ v. ⌜ v ≡ together (λ j. bitOr (getD (now (a .entry)) j 0) (getD (now (b .entry)) j 0)) (length (now (a .entry))) ⌝ }

@@ -86,11 +86,11 @@ pub fn unaligned(patience: Patience, out: &mut dyn Write) -> Done {
     Ok(())
 }
 
-const EXPLAINED: &str = "Every block has the same set; samples are random; planes begin with a cache line. \"Checked C\" is plain C after a scan of the \
-                         block and the samples around it, which is part of every filter call of the stage. \"Rows\" is \
-                         memcpy of each block's rows, block after block: what the block order alone costs. \"Memcpy\" is \
-                         memcpy of the planes from end to end. The samples that stage, plain C and plain Rust leave were \
-                         compared: they are equal.";
+const EXPLAINED: &str = "Every block has the same set; samples are random; planes begin with a cache line. \"Checked C\" is \
+                         plain C after a scan of the block and the samples around it, which is part of every filter call \
+                         of the stage. \"Rows\" is memcpy of each block's rows, block after block: what the block order \
+                         alone costs. \"Memcpy\" is memcpy of the planes from end to end. The samples that stage, plain C \
+                         and plain Rust leave were compared: they are equal.";
 
 fn targets_are_for() -> String {
     let here = std::env::consts::ARCH;

@@ -12,10 +12,10 @@ use Rattle.standard.specs.declared.Near.{Near}
 use Rattle.standard.specs.declared.Near.the-variants as near
 use Rattle.standard.specs.Sets.{Switches, allOff}
 use Rattle.standard.specs.Bins.{binsOf}
-use Rattle.standard.specs.Means.{setOf, anyOn}
+use Rattle.standard.specs.Means.{anyOn}
+use Rattle.standard.proofs.Reader.{setOf, readCtu}
 use Rattle.standard.proofs.Codes.{Got, got, short, then, impossible, Code, pure, readBit, bit, both, as-code}
 use Rattle.standard.proofs.Ctu.{fullCode, after-merge, mergeCode, codeBy, ctuCode}
-use Rattle.standard.proofs.Reader.{readCtu}
 use Rattle.bins.specs.declared.Cursor.{Cursor}
 use Rattle.bins.specs.declared.Form.{Form}
 use Rattle.bins.specs.declared.Form.the-variants.{Left, Up, Full}

@@ -6,15 +6,8 @@ use mathlib.Core.Option.{Option, some, none}
 use Prim.Native.Nat.{ℕ, _≤_}
 use lib.ListN.{length}
 use Rattle.standard.specs.declared.CtuSet.{CtuSet}
-use Rattle.standard.specs.declared.Near.{Near}
-use Rattle.standard.specs.declared.Near.the-variants.{Nothing, Set}
 use Rattle.standard.specs.Sets.{Switches, Valid, allOff}
 use Rattle.standard.specs.Bins.{full}
-
--- the set of a neighbour, where a merge may reach it
-abbrev pub setOf : Near → Option CtuSet
-setOf Nothing = none
-setOf (Set q) = some q
 
 abbrev pub either : Bool → Bool → Bool
 either true b = true

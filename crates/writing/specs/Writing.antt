@@ -10,7 +10,8 @@ use Rattle.standard.specs.declared.State.{State}
 use Rattle.standard.specs.declared.WriteAnswer.{WriteAnswer}
 use Rattle.standard.specs.Sets.{Switches}
 use Rattle.standard.specs.Bins.{packed}
-use Rattle.standard.specs.Means.{setOf, Means, Shortest}
+use Rattle.standard.specs.Means.{Means, Shortest}
+use Rattle.standard.proofs.Reader.{setOf}
 use Rattle.standard.specs.Table.{storedAt}
 use Rattle.standard.specs.Refusals.{Reason, _if_}
 use Rattle.standard.specs.Reasons.{NeighbourOutsideTheRules}

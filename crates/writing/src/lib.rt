@@ -13,7 +13,7 @@ ghost use mathlib.Core.Path.{_≡_};
 ghost use lib.ListN.{drop};
 ghost use Rattle.standard.specs.Picture.{Rules};
 ghost use Rattle.standard.specs.Sets.{switchesOf};
-ghost use Rattle.standard.specs.Means.{setOf};
+ghost use Rattle.standard.proofs.Reader.{setOf};
 ghost use Rattle.standard.specs.Reasons.{writeReasons};
 ghost use Rattle.standard.specs.Contracts.{WriteDecides, Wrote as Bytes, WriteEnsures};
 ghost use Rattle.geometry.specs.Geometry.{nearOf};

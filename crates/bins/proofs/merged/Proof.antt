@@ -2,7 +2,7 @@
 use borrow.Author.Needs.{needs}
 use mathlib.Core.Path.{sym, ap}
 use Rattle.standard.specs.declared.Near.{Near}
-use Rattle.standard.specs.Means.{setOf}
+use Rattle.standard.proofs.Reader.{setOf}
 use Rattle.bins.specs.Forms.{copied}
 use Rattle.bins.proofs.Resolving.{not-there}
 use Rattle.bins.proofs.merged.Statement.{statement}

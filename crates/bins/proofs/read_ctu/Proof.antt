@@ -5,8 +5,7 @@ use mathlib.Core.Option.{some}
 use denote.Ref.{now}
 use Rattle.standard.specs.Sets.{switchesOf}
 use Rattle.standard.specs.Bins.{binsOf}
-use Rattle.standard.specs.Means.{setOf}
-use Rattle.standard.proofs.Reader.{readCtu}
+use Rattle.standard.proofs.Reader.{setOf, readCtu}
 use Rattle.bins.specs.declared.Form.{Form}
 use Rattle.bins.specs.Forms.{answerOf, resolved}
 use Rattle.bins.proofs.Resolving.{same-answer, copied-there}

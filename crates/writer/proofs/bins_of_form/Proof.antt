@@ -7,7 +7,8 @@ use native.Mathlib.Omega.{arith}
 use lib.ListN.{length, length-append}
 use Rattle.standard.specs.Sets.{switchesOf}
 use Rattle.standard.specs.Bins.{full}
-use Rattle.standard.specs.Means.{setOf, notTaken}
+use Rattle.standard.specs.Means.{notTaken}
+use Rattle.standard.proofs.Reader.{setOf}
 use Rattle.writer.specs.declared.Form.{Form}
 use Rattle.writer.specs.Forms.{formBins}
 use Rattle.writer.proofs.Lengths.{three-length}

@@ -3,7 +3,7 @@ use borrow.Author.Needs.{needs}
 use mathlib.Core.Path.{sym, _∙_}
 use borrow.Author.Tests.{not-true, not-false}
 use Rattle.standard.specs.Sets.{switchesOf}
-use Rattle.standard.specs.Means.{setOf}
+use Rattle.standard.proofs.Reader.{setOf}
 use Rattle.standard.proofs.Answers.{told, told-not}
 use Rattle.writer.proofs.Chosen.{is-copy, as-left, ruled, has-meant, unmeant-off, meant-by-up}
 use Rattle.writer.proofs.has_bins.Statement.{statement}

@@ -2,7 +2,7 @@
 use borrow.Author.Needs.{needs}
 use mathlib.Core.Path.{sym, ap, _∙_}
 use Rattle.standard.specs.declared.Near.{Near}
-use Rattle.standard.specs.Means.{setOf}
+use Rattle.standard.proofs.Reader.{setOf}
 use Rattle.writer.specs.Forms.{copies}
 use Rattle.writer.proofs.Chosen.{copies-some}
 use Rattle.writer.proofs.is_copy.Statement.{statement}

@@ -7,7 +7,8 @@ use native.Mathlib.Omega.{arith}
 use lib.ListN.{length}
 use Rattle.standard.specs.Sets.{switchesOf}
 use Rattle.standard.specs.Bins.{fixedLength, full}
-use Rattle.standard.specs.Means.{setOf, notTaken}
+use Rattle.standard.specs.Means.{notTaken}
+use Rattle.standard.proofs.Reader.{setOf}
 use Rattle.sink.proofs.Packed.{puts-none, puts-then, puts-as, room-as, room-first, room-rest}
 use Rattle.writer.specs.declared.Form.{Form}
 use Rattle.writer.specs.Forms.{formBins}

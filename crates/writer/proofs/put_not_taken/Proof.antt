@@ -5,7 +5,8 @@ use native.Mathlib.Omega.{arith}
 use lib.ListN.{length}
 use Rattle.standard.specs.declared.Near.{Near}
 use Rattle.standard.specs.Bins.{fixedLength}
-use Rattle.standard.specs.Means.{setOf, notTaken}
+use Rattle.standard.specs.Means.{notTaken}
+use Rattle.standard.proofs.Reader.{setOf}
 use Rattle.sink.proofs.Packed.{puts-none, puts-as, room-as}
 use Rattle.writer.proofs.put_not_taken.Statement.{statement}
 use Rattle.writer.proofs.put_not_taken.Tie as tie

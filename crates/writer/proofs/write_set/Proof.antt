@@ -3,7 +3,7 @@ use borrow.Author.Needs.{needs}
 use mathlib.Core.Path.{refl}
 use native.Mathlib.Omega.{arith}
 use Rattle.standard.specs.Sets.{switchesOf}
-use Rattle.standard.specs.Means.{setOf}
+use Rattle.standard.proofs.Reader.{setOf}
 use Rattle.sink.proofs.Packed.{puts-as, puts-packed}
 use Rattle.writer.proofs.Chosen.{chosen-bins, chosen-count}
 use Rattle.writer.proofs.write_set.Statement.{statement}

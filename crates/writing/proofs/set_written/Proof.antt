@@ -3,7 +3,7 @@ use mathlib.Core.Path.{_≡_, refl, subst}
 use borrow.Author.Needs.{needs}
 use denote.Ref.{now}
 use Rattle.standard.specs.Sets.{switchesOf}
-use Rattle.standard.specs.Means.{setOf}
+use Rattle.standard.proofs.Reader.{setOf}
 use Rattle.standard.proofs.Answers.{passed, failed}
 use Rattle.writer.specs.declared.Wrote.{Wrote}
 use Rattle.writer.specs.Forms.{Meant, written}

@@ -360,11 +360,7 @@ static void print_figures(const struct receiver *r, const struct stream *s)
 /* All that is lent, and the state, in one number. */
 static uint64_t looked_at(const struct picture *p)
 {
-    const sg_state *s = &p->state;
-    const uint32_t numbers[] = {s->width, s->height, s->ctb, s->format, s->depth, s->luma, s->chroma, s->next};
-    uint64_t sum = NOTHING_SUMMED;
-    for (int n = 0; n < 8; n++)
-        sum = summed(sum, numbers[n], 4);
+    uint64_t sum = bytes_summed(NOTHING_SUMMED, (const uint8_t *)&p->state, sizeof p->state);
     for (int i = 0; i < COMPONENTS; i++) {
         sum = plane_summed(sum, p->deblocked[i], p->sizes.samples[i]);
         sum = plane_summed(sum, p->filtered[i], p->sizes.samples[i]);

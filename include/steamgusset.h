@@ -10,7 +10,8 @@
  *
  * THE LIFE OF A PICTURE
  *
- *     sg_state state = {200, 120, 64, 1, 10, 1, 1, 0};     the description: 200x120, CTB size 64, 4:2:0, 10 bit
+ *     sg_state state = {                                   the description; what is not named is 0
+ *         .width = 200, .height = 120, .ctb = 64, .format = 1, .depth = 10, .luma = 1, .chroma = 1};
  *     struct sg_sizes sizes;
  *     sg_sizes(&state, &sizes);                            how long each buffer has to be; allocate them
  *     sg_open(&state, marks, sizes.marks);
@@ -34,9 +35,9 @@
  * as before.
  *
  * Damaged bins show, if at all, as SG_TOO_EARLY or SG_BINS_REMAIN, and a damaged count as SG_COUNT_TOO_LARGE too. A
- * receiver that conceals them calls sg_write with a set of its own choice, 18 zero bytes for off, and throws the bins
- * away: that stores the set and moves on to the next CTU. SG_NOT_READY means later. Every other refusal in a running
- * receiver says that its own books are wrong.
+ * receiver that conceals them calls sg_write with a set of its own choice, SG_SET_BYTES zero bytes for off, and throws
+ * the bins away: that stores the set and moves on to the next CTU. SG_NOT_READY means later. Every other refusal in a
+ * running receiver says that its own books are wrong.
  *
  * MEMORY
  *
@@ -110,8 +111,9 @@ static inline const char *sg_reason(uint32_t answer)
 
 /* ---- what crosses */
 
-/* The description of a picture, and how far its sets are in. The caller fills in the first seven; open, read and write
- * keep the last. Numbers outside the ranges given here break a rule: SG_DESCRIPTION, before every other reason. */
+/* The description of a picture, and how far its sets are in. The caller fills in the description by its fields' names;
+ * open, read and write keep next, which stands last. Numbers outside the ranges given here break a rule:
+ * SG_DESCRIPTION, before every other reason. */
 typedef struct sg_state {
     uint32_t width;  /* in luma samples: a multiple of 8, from 8 to 8192 */
     uint32_t height; /* likewise */
@@ -133,7 +135,7 @@ struct sg_sizes {
     size_t rows;
     size_t ctus;       /* columns * rows */
     size_t marks;      /* the length of the marks: a byte for each CTB of each component present */
-    size_t table;      /* the length of the table: SG_SET_BYTES for each CTU */
+    size_t table;      /* the length of the table: SG_ENTRY_BYTES for each CTU */
 };
 
 /* Where a CTB lies in its plane, by sg_block: columns x0 up to, and without, x1, rows y0 up to, and without, y1. */
@@ -150,7 +152,7 @@ typedef struct sg_rows {
     size_t samples;
 } sg_rows;
 
-/* A parameter set is 18 bytes, in a call and in the table, where the sets lie one after another in raster order:
+/* A parameter set in a call:
  *
  *      byte    0     1         2       3       4       5      6 to 11   12 to 17
  *            +-----+---------+-------+-------+-------+-------+---------+---------+
@@ -169,13 +171,17 @@ typedef struct sg_rows {
  * Edge of class 2 with offsets 1, 0, 0, -2 for luma alone: 02 02 81 80 80 7E, and twelve bytes 00. */
 #define SG_SET_BYTES 18
 
+/* A CTU's entry in the table, where the entries lie one after another in raster order: the bytes of its set. */
+#define SG_ENTRY_BYTES SG_SET_BYTES
+
 /* Room for the bins of any CTU. Two merge flags, luma 135, Cb 135 and Cr 133 are 405 bins at most: for a component 2
  * for the type (not Cr), four magnitudes of 31, four signs and 5 for the position. */
 #define SG_BINS_BYTES 51
 
-/* The layout that the archive was compiled for: a compiler that lays out otherwise stops here. */
+/* The layout that the archive was compiled for: a compiler that lays out otherwise stops here. To the archive the state
+ * is an array of numbers, so the last one ends it. */
 #define SG_LAYOUT(name, holds) typedef char sg_layout_of_##name[(holds) ? 1 : -1]
-SG_LAYOUT(state, sizeof(sg_state) == 32);
+SG_LAYOUT(state, sizeof(sg_state) == offsetof(sg_state, next) + sizeof(uint32_t));
 SG_LAYOUT(sizes, sizeof(struct sg_sizes) == 14 * sizeof(size_t));
 SG_LAYOUT(block, sizeof(struct sg_block) == 4 * sizeof(size_t));
 SG_LAYOUT(rows, sizeof(sg_rows) == 2 * sizeof(size_t));

@@ -15,6 +15,7 @@
 #![allow(unsafe_code)]
 
 use crate::sets::SET_BYTES;
+use std::mem::offset_of;
 
 /// The state: the description and the number of the next CTU to be read or written. Plain numbers, so that a wrong one
 /// can be handed in and refused.
@@ -39,6 +40,9 @@ pub struct State {
     pub next: u32,
 }
 
+// The exported functions take it as an array of numbers: the last one ends it.
+const _: () = assert!(offset_of!(State, next) + size_of::<u32>() == size_of::<State>());
+
 /// The sizes of a picture and the lengths of the buffers to lend. An absent component has 0 everywhere.
 #[derive(Clone, Copy, Debug, Default, PartialEq, Eq, Hash)]
 #[repr(C)]
@@ -57,7 +61,7 @@ pub struct Sizes {
     pub ctus: usize,
     /// The length of the marks in bytes.
     pub marks: usize,
-    /// The length of the table in bytes.
+    /// The length of the table in bytes, [`ENTRY_BYTES`](crate::ENTRY_BYTES) for each CTU.
     pub table: usize,
 }
 
@@ -105,8 +109,7 @@ pub struct Rows {
     pub samples: usize,
 }
 
-// The exported functions take these as arrays of eight, fourteen, four and two numbers.
-const _: () = assert!(size_of::<State>() == size_of::<[u32; 8]>());
+// The exported functions take these as arrays of fourteen, four and two numbers.
 const _: () = assert!(size_of::<Sizes>() == size_of::<[usize; 14]>());
 const _: () = assert!(size_of::<Block>() == size_of::<[usize; 4]>());
 const _: () = assert!(size_of::<Rows>() == size_of::<[usize; 2]>());

@@ -66,5 +66,5 @@ mod stage;
 pub use ffi::{Block, Rows, Sizes, State};
 pub use picture::Picture;
 pub use refusal::Refusal;
-pub use sets::{BINS_BYTES, CtuSet, Offsets, SET_BYTES};
+pub use sets::{BINS_BYTES, CtuSet, ENTRY_BYTES, Offsets, SET_BYTES};
 pub use stage::{Lent, Stage};

@@ -1,9 +1,12 @@
-//! Parameter sets, and the 18 bytes that they cross and are stored as.
+//! Parameter sets, and the bytes that they cross and are stored as.
 
 use std::fmt;
 
-/// The bytes of a set: six each for luma, Cb and Cr.
+/// The bytes of a set as it crosses: six each for luma, Cb and Cr.
 pub const SET_BYTES: usize = 18;
+
+/// The bytes of a CTU's entry in the table: those of its set.
+pub const ENTRY_BYTES: usize = SET_BYTES;
 
 /// Room that every CTU's bins fit in, at every depth. The longest are 405 bins: both merge bins, and bands of the
 /// largest magnitude in all three components.
@@ -92,7 +95,7 @@ impl CtuSet {
         [self.luma, self.cb, self.cr]
     }
 
-    /// Its bytes, as in the table (`docs/CALLS.md`). Every set has bytes, within the rules or not.
+    /// Its bytes, as they cross (`docs/CALLS.md`). Every set has bytes, within the rules or not.
     #[must_use]
     pub fn to_bytes(&self) -> [u8; SET_BYTES] {
         let bytes = self.components().map(Offsets::to_bytes);

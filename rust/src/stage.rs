@@ -79,10 +79,10 @@ impl<'a> Stage<'a> {
     /// In this order: [`Refusal::Description`]; [`Refusal::Length`] of any buffer. What is lent is then as it was.
     ///
     /// ```
-    /// use steamgusset::{CtuSet, Lent, Picture, Refusal, Stage};
+    /// use steamgusset::{CtuSet, ENTRY_BYTES, Lent, Picture, Refusal, Stage};
     ///
     /// let picture = Picture { width: 8, height: 8, ctb: 16, format: 0, depth: 8, luma: true, chroma: false };
-    /// let (mut before, mut after, mut marks, mut table) = ([0; 64], [0; 64], [0; 1], [0; 18]);
+    /// let (mut before, mut after, mut marks, mut table) = ([0; 64], [0; 64], [0; 1], [0; ENTRY_BYTES]);
     /// let lent = Lent {
     ///     deblocked: [&mut before, &mut [], &mut []],
     ///     filtered: [&mut after, &mut [], &mut []],

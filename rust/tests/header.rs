@@ -1,9 +1,9 @@
-//! The header, the documents and this package say the same: numbers, names, words, fields, and each call's reasons in
-//! their order.
+//! The header, the documents, the exported code and this package say the same: numbers, names, words, fields, and each
+//! call's reasons in their order.
 
 use std::fmt::Debug;
 use std::path::Path;
-use steamgusset::{BINS_BYTES, Block, Refusal, Rows, SET_BYTES, Sizes, State};
+use steamgusset::{BINS_BYTES, Block, ENTRY_BYTES, Refusal, Rows, SET_BYTES, Sizes, State};
 
 /// A text of the project.
 fn text(file: &str) -> String {
@@ -139,10 +139,35 @@ fn what_crosses_has_the_same_fields_in_the_same_order() {
     assert_eq!(fields(&header, "sg_rows"), fields_here(&Rows::default()));
 }
 
+/// The lines that lay out a state in the exported code: the place of each number, and how many they are.
+fn places(code: &str) -> Vec<&str> {
+    let list = between(code, "// ---- the layout of a state", "\n// ----");
+    list.lines().filter(|line| line.starts_with("const ")).collect()
+}
+
+#[test]
+fn the_exported_code_has_the_places_of_a_state_in_the_same_order() {
+    let (header, code) = (header(), text("crates/steamgusset/src/lib.rt"));
+    let fields = fields(&header, "sg_state");
+    let names: Vec<String> = fields.iter().map(|field| field.to_uppercase()).chain(["NUMBERS".into()]).collect();
+    let first = format!("const {}: usize = 0;", names[0]);
+    let others = names.windows(2).map(|pair| format!("const {}: usize = {} + 1;", pair[1], pair[0]));
+    assert_eq!(places(&code), [first].into_iter().chain(others).collect::<Vec<_>>());
+    // The places are those of an array, so the fields are numbers of 32 bits.
+    let numbers = between(&header, "struct sg_state {", "\n}").matches("    uint32_t ").count();
+    assert_eq!((numbers, size_of::<State>()), (fields.len(), fields.len() * size_of::<u32>()));
+}
+
+/// The number that the header defines a name as, itself or by another name.
+fn defined(header: &str, name: &str) -> usize {
+    let value = between(header, &format!("#define {name} "), "\n");
+    value.parse().unwrap_or_else(|_| defined(header, value))
+}
+
 #[test]
 fn the_headers_lengths_are_ours() {
     let header = header();
-    let defined = |name: &str| between(&header, &format!("#define {name} "), "\n").parse().ok();
-    assert_eq!(defined("SG_SET_BYTES"), Some(SET_BYTES));
-    assert_eq!(defined("SG_BINS_BYTES"), Some(BINS_BYTES));
+    assert_eq!(defined(&header, "SG_SET_BYTES"), SET_BYTES);
+    assert_eq!(defined(&header, "SG_ENTRY_BYTES"), ENTRY_BYTES);
+    assert_eq!(defined(&header, "SG_BINS_BYTES"), BINS_BYTES);
 }

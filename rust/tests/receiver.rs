@@ -3,8 +3,10 @@
 
 use second::{Answer, Call, CtuSet, Picture, State, Value, World, apply, filter_picture, table};
 use std::ffi::OsString;
+use std::mem::offset_of;
 use std::path::{Path, PathBuf};
 use std::process::Command;
+use steamgusset::ffi;
 
 const PROJECT: &str = concat!(env!("CARGO_MANIFEST_DIR"), "/..");
 const WARNINGS: [&str; 4] = ["-Wall", "-Wextra", "-Wpedantic", "-Werror"];
@@ -120,20 +122,19 @@ struct Saved {
 
 impl Saved {
     fn parse(bytes: &[u8]) -> Saved {
-        let (numbers, rest) = bytes.split_at(size_of::<steamgusset::State>());
-        let numbers: Vec<u32> =
-            numbers.chunks_exact(4).map(|four| u32::from_ne_bytes([four[0], four[1], four[2], four[3]])).collect();
+        let (state, rest) = bytes.split_at(size_of::<ffi::State>());
+        let number = |place: usize| u32::from_ne_bytes(state[place..][..4].try_into().expect("four bytes"));
         let picture = Picture {
-            width: numbers[0],
-            height: numbers[1],
-            ctb: numbers[2],
-            format: numbers[3] as u8,
-            depth: numbers[4] as u8,
-            luma: numbers[5] == 1,
-            chroma: numbers[6] == 1,
+            width: number(offset_of!(ffi::State, width)),
+            height: number(offset_of!(ffi::State, height)),
+            ctb: number(offset_of!(ffi::State, ctb)),
+            format: number(offset_of!(ffi::State, format)) as u8,
+            depth: number(offset_of!(ffi::State, depth)) as u8,
+            luma: number(offset_of!(ffi::State, luma)) == 1,
+            chroma: number(offset_of!(ffi::State, chroma)) == 1,
         };
-        assert_eq!(numbers[7] as usize, picture.ctus(), "every set is in");
-        let (table, rest) = rest.split_at(picture.ctus() * table::ENTRY);
+        assert_eq!(number(offset_of!(ffi::State, next)) as usize, picture.ctus(), "every set is in");
+        let (table, rest) = rest.split_at(picture.ctus() * table::ENTRY_BYTES);
         let (deblocked, rest) = planes(&picture, rest);
         let (finished, rest) = planes(&picture, rest);
         assert!(rest.is_empty());

@@ -7,7 +7,8 @@ use crate::picture::Picture;
 use crate::sets::{ComponentSet, CtuSet};
 
 /// hPos and vPos, Table 8-13: per class the two neighbours, as (x, y) steps.
-const NEIGHBOURS: [[(i64, i64); 2]; 4] = [[(-1, 0), (1, 0)], [(0, -1), (0, 1)], [(-1, -1), (1, 1)], [(1, -1), (-1, 1)]];
+pub const NEIGHBOURS: [[(i64, i64); 2]; 4] =
+    [[(-1, 0), (1, 0)], [(0, -1), (0, 1)], [(-1, -1), (1, 1)], [(1, -1), (-1, 1)]];
 
 /// One component's deblocked samples, by place.
 #[derive(Clone, Copy)]

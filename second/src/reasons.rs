@@ -158,7 +158,7 @@ pub fn finished_rows<'a>(state: State, component: u8, filtered: [usize; 3], mark
 // What the lines speak of.
 
 fn table_bytes(picture: &Picture) -> usize {
-    picture.ctus() * table::ENTRY
+    picture.ctus() * table::ENTRY_BYTES
 }
 
 fn wrong_planes(picture: &Picture, lengths: [usize; 3]) -> bool {

@@ -27,6 +27,11 @@ impl Script {
     pub fn new(seed: u64, most: u32) -> Result<Script, String> {
         let mut random = Random::new(seed);
         let picture = generate::picture(&mut random, most);
+        Script::of(random, picture)
+    }
+
+    /// The script of this picture.
+    pub fn of(mut random: Random, picture: Picture) -> Result<Script, String> {
         let sets = generate::sets(&mut random, &picture);
         let deblocked = generate::planes(&mut random, &picture);
         let bins = write_all(&picture, &sets)?;

@@ -1,7 +1,8 @@
 //! What the proved program `replay` is run on, and what it must write: the files `stdin` and `stdout` of crates/replay.
 //!
-//! Method: runs of calls on small pictures are drawn with fixed seeds ([`drawn`]), document 01's case 10 first. A
-//! [`Machine`] keeps what the proved program keeps, makes each call by [`apply`] and says what comes of it in a line.
+//! Method: runs of calls on pictures of each CTB size are drawn with fixed seeds ([`drawn`]), document 01's case 10
+//! first. A [`Machine`] keeps what the proved program keeps, makes each call by [`apply`] and says what comes of it in a
+//! line.
 //! The byte format, the samples made from a few numbers and the sums are those that the program describes; nothing else
 //! is shared with it.
 
@@ -12,10 +13,22 @@ use crate::sets::CtuSet;
 use crate::table;
 use crate::world::{Answer, Call, Value, World, apply};
 
-/// The lengths of the eight whole buffers: three deblocked planes, three filtered ones, the marks, the table.
-pub const WHOLE: [usize; 8] = [1024, 256, 256, 1024, 256, 256, 32, 128];
+/// The proved program's room for a plane of any format, of marks and of table: a row, or a CTU, more than any picture has.
+pub const PLANE: usize = 128 * 129;
+const CTUS: usize = 65;
+const MARKS: usize = 3 * CTUS;
+const TABLE: usize = 32 * CTUS;
 
-/// The bytes of the room that is lent to write, and the most bins given to read.
+/// The lengths of the eight whole buffers: three deblocked planes, three filtered ones, the marks, the table.
+pub const WHOLE: [usize; 8] = [PLANE, PLANE, PLANE, PLANE, PLANE, PLANE, MARKS, TABLE];
+
+/// The most samples delivered: a CTB of 64x64, and a row more.
+pub const DELIVERY: usize = 64 * 65;
+
+/// How many places after the lent part of a buffer are summed with it.
+const GUARD: usize = 64;
+
+/// The bytes of the room that is lent to write, and the most bytes of bins given to read.
 pub const ROOM: usize = 64;
 
 /// The bytes of a stored file; nothing for any other names.
@@ -25,8 +38,8 @@ pub fn bytes(program: &str, file: &str) -> Option<Vec<u8>> {
         ("replay", "stdout") => {
             let mut machine = Machine::new();
             let commands = drawn::commands();
-            let made = commands.iter().filter_map(|command| machine.made(command));
-            Some(made.flat_map(|made| (made.line + "\n").into_bytes()).collect())
+            let mut line = |command| machine.made(command).map(|made| machine.line(command, &made.answer));
+            Some(commands.iter().filter_map(&mut line).flat_map(String::into_bytes).collect())
         }
         _ => None,
     }
@@ -39,8 +52,8 @@ fn xorshift(mut x: u32) -> u32 {
     x ^ (x << 5)
 }
 
-fn sum<T: Copy + Into<u32>>(numbers: &[T]) -> u32 {
-    numbers.iter().fold(1, |sum, &number| xorshift(sum ^ number.into()))
+fn sum<'a, T: Copy + Into<u32> + 'a>(numbers: impl IntoIterator<Item = &'a T>) -> u32 {
+    numbers.into_iter().fold(1, |sum, &number| xorshift(sum ^ number.into()))
 }
 
 // The commands.
@@ -199,14 +212,13 @@ pub struct Machine {
     pub whole: World,
 }
 
-/// A call made: what it was given and lent, what came back, and its line.
+/// A call made: what it was given and lent, and what came back.
 #[derive(Clone, Debug)]
 pub struct Made {
     pub state: State,
     pub lent: World,
     pub call: Call,
     pub answer: Answer,
-    pub line: String,
 }
 
 impl Machine {
@@ -230,7 +242,7 @@ impl Machine {
             Command::Lengths(lengths) => self.lengths = *lengths,
             Command::Fill(seed) => self.fill(*seed),
             Command::Poke { buffer, place, value } => self.poke(*buffer, *place, *value),
-            _ => return command.call().map(|call| self.called(command, call)),
+            _ => return command.call().map(|call| self.called(call)),
         }
         None
     }
@@ -277,14 +289,18 @@ impl Machine {
         }
     }
 
-    fn called(&mut self, command: &Command, call: Call) -> Made {
+    fn called(&mut self, call: Call) -> Made {
         let (state, lent) = (self.state, self.lent());
         let mut after = lent.clone();
         let answer = apply(&mut after, state, call.clone());
         self.state = answer.state;
         self.put_back(&after);
-        let line = format!("{}{}", said(command, &answer), self.sums());
-        Made { state, lent, call, answer, line }
+        Made { state, lent, call, answer }
+    }
+
+    /// The line of the call that was made last.
+    pub fn line(&self, command: &Command, answer: &Answer) -> String {
+        format!("{}{}\n", said(command, answer), self.sums())
     }
 
     fn put_back(&mut self, lent: &World) {
@@ -297,13 +313,19 @@ impl Machine {
         table[..lent.table.len()].copy_from_slice(&lent.table);
     }
 
-    /// The sums of the state, the deblocked planes, the filtered planes, the marks and the table.
+    /// The sums of the state, the deblocked planes, the filtered planes, the marks and the table: of each what is lent
+    /// and what comes after it, as far as the guard goes.
     fn sums(&self) -> String {
         let Picture { width, height, ctb, format, depth, luma, chroma } = self.state.picture;
         let state: [u32; 8] =
             [width, height, ctb, format.into(), depth.into(), luma.into(), chroma.into(), self.state.next];
         let World { deblocked, filtered, marks, table } = &self.whole;
-        let sums = [sum(&state), sum(&deblocked.concat()), sum(&filtered.concat()), sum(marks), sum(table)];
+        let end = |buffer: usize| (self.lengths[buffer] + GUARD).min(WHOLE[buffer]);
+        let planes = |planes: &[Vec<u16>; 3], first: usize| {
+            sum(planes.iter().enumerate().flat_map(|(plane, samples)| &samples[..end(first + plane)]))
+        };
+        let (deblocked, filtered) = (planes(deblocked, 0), planes(filtered, 3));
+        let sums = [sum(&state), deblocked, filtered, sum(&marks[..end(6)]), sum(&table[..end(7)])];
         sums.map(|sum| format!(" {sum:08x}")).concat()
     }
 }

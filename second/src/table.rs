@@ -1,4 +1,4 @@
-//! The table of stored sets: 18 bytes per CTU.
+//! The table of stored sets: an entry per CTU, the bytes of its set.
 //!
 //! For luma, Cb, Cr each six bytes: type 0, 1, 2; band position or class; four offsets, each plus 128. Off has one
 //! encoding, six zeros. Method: an entry is sound exactly if it is the encoding of a set within the rules, so the set
@@ -7,10 +7,13 @@
 use crate::picture::Picture;
 use crate::sets::{ComponentSet, CtuSet};
 
-/// Bytes per CTU.
-pub const ENTRY: usize = 18;
+/// The bytes of a set.
+pub const SET_BYTES: usize = 18;
 
-const COMPONENT: usize = ENTRY / 3;
+/// The bytes of a CTU's entry: those of its set.
+pub const ENTRY_BYTES: usize = SET_BYTES;
+
+const COMPONENT: usize = SET_BYTES / 3;
 
 fn encode_component(set: &ComponentSet) -> [u8; COMPONENT] {
     let (second, offsets) = match *set {
@@ -22,7 +25,7 @@ fn encode_component(set: &ComponentSet) -> [u8; COMPONENT] {
     [set.type_index(), second, a, b, c, d]
 }
 
-pub fn encode(set: &CtuSet) -> [u8; ENTRY] {
+pub fn encode(set: &CtuSet) -> [u8; SET_BYTES] {
     let bytes = set.components().map(|component| encode_component(&component));
     std::array::from_fn(|place| bytes[place / COMPONENT][place % COMPONENT])
 }
@@ -47,11 +50,11 @@ pub fn decode(picture: &Picture, entry: &[u8]) -> Option<CtuSet> {
 
 /// The set stored for a CTU, if its entry is sound.
 pub fn stored(picture: &Picture, table: &[u8], ctu: usize) -> Option<CtuSet> {
-    decode(picture, &table[ctu * ENTRY..][..ENTRY])
+    decode(picture, &table[ctu * ENTRY_BYTES..][..ENTRY_BYTES])
 }
 
 pub fn store(table: &mut [u8], ctu: usize, set: &CtuSet) {
-    table[ctu * ENTRY..][..ENTRY].copy_from_slice(&encode(set));
+    table[ctu * ENTRY_BYTES..][..ENTRY_BYTES].copy_from_slice(&encode(set));
 }
 
 #[cfg(test)]
@@ -60,7 +63,7 @@ mod tests {
 
     const PICTURE: Picture = Picture { width: 8, height: 8, ctb: 16, format: 1, depth: 8, luma: true, chroma: true };
 
-    fn luma_entry(six: [u8; 6]) -> [u8; ENTRY] {
+    fn luma_entry(six: [u8; 6]) -> [u8; ENTRY_BYTES] {
         std::array::from_fn(|place| six.get(place).copied().unwrap_or(0))
     }
 

@@ -28,7 +28,7 @@ impl World {
             deblocked: std::array::from_fn(plane),
             filtered: std::array::from_fn(plane),
             marks: vec![0; length(&|| picture.marks())],
-            table: vec![0; length(&|| picture.ctus() * table::ENTRY)],
+            table: vec![0; length(&|| picture.ctus() * table::ENTRY_BYTES)],
         }
     }
 }

@@ -131,11 +131,11 @@ fn read() {
         (6, |scene| give_bins(scene, 0x80, 2)),
         (14, |scene| {
             give_bins(scene, 0x80, 1);
-            scene.world.table[3 * table::ENTRY] = 3;
+            scene.world.table[3 * table::ENTRY_BYTES] = 3;
         }),
         (14, |scene| {
             give_bins(scene, 0x40, 2);
-            scene.world.table[table::ENTRY] = 3;
+            scene.world.table[table::ENTRY_BYTES] = 3;
         }),
     ];
     judge(undamaged, &damages, &[1, 2, 14, 7, 4, 5, 6, 14]);
@@ -154,8 +154,8 @@ fn write() {
         (2, |scene| scene.world.table.truncate(17)),
         (14, |scene| scene.state.next = u32::MAX),
         (7, |scene| scene.state.next = 9),
-        (14, |scene| scene.world.table[3 * table::ENTRY + 6] = 0),
-        (14, |scene| scene.world.table[table::ENTRY + 1] = 32),
+        (14, |scene| scene.world.table[3 * table::ENTRY_BYTES + 6] = 0),
+        (14, |scene| scene.world.table[table::ENTRY_BYTES + 1] = 32),
         (12, |scene| want(scene, band(200, [0; 4]))),
         (12, |scene| want(scene, band(0, [-128, 0, 0, 0]))),
         (12, |scene| want(scene, edge(9, [0; 4]))),
@@ -220,9 +220,9 @@ fn filter() {
         (10, |scene| scene.state.next = MIDDLE),
         (10, |scene| scene.world.marks[MARK] = 0),
         (10, |scene| scene.world.marks[MARK + 4] = 0),
-        (14, |scene| scene.world.table[4 * table::ENTRY] = 3),
+        (14, |scene| scene.world.table[4 * table::ENTRY_BYTES] = 3),
         // Another component's part of the own set is judged with it.
-        (14, |scene| scene.world.table[4 * table::ENTRY + 13] = 3),
+        (14, |scene| scene.world.table[4 * table::ENTRY_BYTES + 13] = 3),
         // The block begins at (8, 8) of a plane 24 wide: its last sample, and the one around its upper left corner.
         (14, |scene| scene.world.deblocked[1][15 * 24 + 15] = 256),
         (14, |scene| scene.world.deblocked[1][7 * 24 + 7] = 256),
@@ -312,16 +312,18 @@ fn what_is_not_judged() {
     };
     let filter = || Call::Filter { component: CB, ctb: MIDDLE };
     assert!(accepts(u32::MAX, Call::Open, |scene| scene.world.table.clear()));
-    assert!(accepts(4, Call::Read { bins: vec![0x7F], count: 2 }, |scene| scene.world.table[3 * table::ENTRY] = 9));
-    assert!(accepts(4, Call::Read { bins: vec![0xFF], count: 1 }, |scene| scene.world.table[table::ENTRY] = 9));
+    assert!(
+        accepts(4, Call::Read { bins: vec![0x7F], count: 2 }, |scene| scene.world.table[3 * table::ENTRY_BYTES] = 9)
+    );
+    assert!(accepts(4, Call::Read { bins: vec![0xFF], count: 1 }, |scene| scene.world.table[table::ENTRY_BYTES] = 9));
     assert!(accepts(4, Call::Read { bins: vec![0], count: 4 }, |scene| scene.world.table.fill(9)));
     assert!(accepts(4, Call::Read { bins: vec![0], count: 4 }, |scene| scene.world.marks.clear()));
     let write = || Call::Write { set: CtuSet::OFF, out: vec![0] };
-    assert!(accepts(4, write(), |scene| scene.world.table[4 * table::ENTRY..].fill(9)));
-    assert!(accepts(4, write(), |scene| scene.world.table[..table::ENTRY].fill(9)));
+    assert!(accepts(4, write(), |scene| scene.world.table[4 * table::ENTRY_BYTES..].fill(9)));
+    assert!(accepts(4, write(), |scene| scene.world.table[..table::ENTRY_BYTES].fill(9)));
     assert!(accepts(9, filter(), |scene| scene.world.marks[4] = 77));
-    assert!(accepts(9, filter(), |scene| scene.world.table[5 * table::ENTRY] = 9));
-    assert!(accepts(5, filter(), |scene| scene.world.table[5 * table::ENTRY..].fill(9)));
+    assert!(accepts(9, filter(), |scene| scene.world.table[5 * table::ENTRY_BYTES] = 9));
+    assert!(accepts(5, filter(), |scene| scene.world.table[5 * table::ENTRY_BYTES..].fill(9)));
     assert!(accepts(9, filter(), |scene| scene.world.deblocked[1][6 * 24 + 8] = 256));
     assert!(accepts(9, filter(), |scene| scene.world.deblocked[1][8 * 24 + 17] = 256));
     assert!(accepts(9, Call::FinishedRows { component: 0 }, |scene| scene.world.marks[MARK] = 9));
@@ -345,7 +347,7 @@ fn both_switches_off() {
     assert_eq!(answer(&mut fresh(), 4, write(CtuSet::OFF, &[])), Ok(Value::Bins(0)));
     assert_eq!(answer(&mut fresh(), 4, write(CtuSet::of_luma(band(0, [0; 4])), &[])), Err(Refusal(12)));
     let mut world = fresh();
-    world.table[3 * table::ENTRY] = 1;
+    world.table[3 * table::ENTRY_BYTES] = 1;
     assert_eq!(answer(&mut world, 4, write(CtuSet::OFF, &[])), Err(Refusal(14)));
     assert_eq!(answer(&mut world, 4, read(&[], 0)), Ok(Value::Set(CtuSet::OFF)));
 }

@@ -3,6 +3,8 @@
 //! They are written anew by `second stored PROGRAM FILE > crates/PROGRAM/FILE`, for the programs `cases` and `blocks`
 //! and their files `stdin` and `stdout`.
 
+use second::ComponentSet;
+use second::stored::blocks::{PLANE, Record, SHAPES, records};
 use std::process::Command;
 
 fn second(arguments: &[&str]) -> std::process::Output {
@@ -29,5 +31,43 @@ fn no_other_file_is_stored() {
     {
         let written = second(arguments);
         assert_eq!((written.status.code(), written.stdout.len()), (Some(2), 0));
+    }
+}
+
+/// The proved program has room for every plane, and each of its sides is a byte.
+#[test]
+fn there_is_room_for_the_planes() {
+    for Record { width, height, .. } in records() {
+        assert!(width * height <= PLANE && width <= 255 && height <= 255, "{width}x{height}");
+    }
+}
+
+/// The neighbours that samples of a block are compared with by each class, northwest first: only a diagonal class comes to
+/// corners, and then to two of them.
+const COMPARED: [[bool; 8]; 4] = {
+    const O: bool = false;
+    const I: bool = true;
+    [[O, O, O, I, I, O, O, O], [O, I, O, O, O, O, I, O], [I, I, O, I, I, O, I, I], [O, I, I, I, I, I, I, O]]
+};
+
+/// The records of a class with one neighbour barred and no other.
+fn barred_alone(class: u8, place: usize) -> Vec<Record> {
+    let of_class = |set| matches!(set, ComponentSet::Edge { class: other, .. } if other == class);
+    records().into_iter().filter(|record| of_class(record.set) && record.bars == 1 << place).collect()
+}
+
+/// Blocks of every shape are filtered by every class with each neighbour barred alone. A bar changes what comes out
+/// exactly where the class compares with that neighbour.
+#[test]
+fn every_neighbour_is_barred_alone() {
+    for (class, place) in (0..4).flat_map(|class| (0..8).map(move |place| (class, place))) {
+        let barred = barred_alone(class, place);
+        for (wide, high) in SHAPES {
+            let is_such =
+                |Record { block, .. }: &Record| (block.right - block.left, block.bottom - block.top) == (wide, high);
+            assert!(barred.iter().any(is_such), "{wide}x{high}, class {class}, neighbour {place}");
+        }
+        let shows = |record: &Record| record.filtered() != Record { bars: 0, ..*record }.filtered();
+        assert_eq!(barred.iter().any(shows), COMPARED[usize::from(class)][place], "class {class}, neighbour {place}");
     }
 }

@@ -3,9 +3,9 @@
 //! They are written anew by `second stored replay FILE > crates/replay/FILE`, for the files `stdin` and `stdout`.
 
 use second::reasons::{self, Reason};
-use second::stored_runs::drawn::{Kind, commands};
-use second::stored_runs::{Command, Machine, Made, WHOLE, bytes};
-use second::{Answer, Call, Value};
+use second::stored_runs::drawn::{DEPTHS, Kind, commands};
+use second::stored_runs::{Command, DELIVERY, Machine, Made, ROOM, WHOLE, bytes};
+use second::{Answer, Call, Picture, Value};
 use std::collections::BTreeMap;
 
 /// Every reason is met at least so often in a call that has it.
@@ -74,7 +74,12 @@ fn every_reason_is_met() {
     assert!(calls.len() >= 6000);
 }
 
-/// The pictures are many, small, and of every kind; sets, bins and rows are handed out too.
+/// Whether some accepted call passes the test.
+fn has(calls: &[Made], test: impl Fn(&Made) -> bool) -> bool {
+    calls.iter().any(|made| made.answer.answer.is_ok() && test(made))
+}
+
+/// The pictures are many and of every kind; sets, bins and rows are handed out too.
 #[test]
 fn the_runs_are_of_every_kind() {
     let commands = commands();
@@ -83,24 +88,48 @@ fn the_runs_are_of_every_kind() {
     let calls = calls();
     let whole = |made: &&Made| made.answer.answer == Ok(Value::Rows(made.state.picture.plane_height(0)));
     println!("replay: {runs} runs, luma finished {} times", calls.iter().filter(whole).count());
-    let has = |test: &dyn Fn(&Made) -> bool| calls.iter().any(|made| made.answer.answer.is_ok() && test(made));
-    for depth in 8..=16 {
-        for format in [0, 1] {
-            let filtered = |made: &Made| {
-                let picture = made.state.picture;
-                matches!(made.call, Call::Filter { .. }) && (picture.depth, picture.format) == (depth, format)
-            };
-            assert!(has(&filtered), "depth {depth}, format {format}");
-        }
-    }
-    for ctb in [16, 32, 64] {
-        assert!(has(&|made| made.state.picture.ctb == ctb));
+    for (depth, format) in (8..=16).flat_map(|depth| [0, 1].map(|format| (depth, format))) {
+        let filtered = |made: &Made| {
+            let picture = made.state.picture;
+            matches!(made.call, Call::Filter { .. }) && (picture.depth, picture.format) == (depth, format)
+        };
+        assert!(has(&calls, filtered), "depth {depth}, format {format}");
     }
     let all = |made: &Made| made.state.picture.plane_height(0);
-    assert!(has(&|made| matches!(made.answer.answer, Ok(Value::Rows(rows)) if 0 < rows && rows < all(made))));
+    assert!(has(&calls, |made| matches!(made.answer.answer, Ok(Value::Rows(rows)) if 0 < rows && rows < all(made))));
     assert!(has(
-        &|made| matches!(made.answer, Answer { answer: Ok(Value::Rows(_)), ref part, .. } if part.len() > 900)
+        &calls,
+        |made| matches!(made.answer, Answer { answer: Ok(Value::Rows(_)), ref part, .. } if part.len() > 4000)
     ));
+}
+
+/// Whether the last column and the last row are narrower and lower than a CTB.
+fn is_cut_short(picture: &Picture) -> bool {
+    !picture.width.is_multiple_of(picture.ctb) && !picture.height.is_multiple_of(picture.ctb)
+}
+
+/// Of every CTB size, format and chosen depth there is a picture of several CTUs in two rows, cut short on both sides, of
+/// which the last CTB is filtered; and one picture has 64 CTUs, all of them filtered.
+#[test]
+fn the_larger_pictures_are_of_every_kind() {
+    let calls = calls();
+    let formats = [16, 32, 64].into_iter().flat_map(|ctb| [0, 1].map(|format| (ctb, format)));
+    for (ctb, format, depth) in formats.flat_map(|(ctb, format)| DEPTHS.map(|depth| (ctb, format, depth))) {
+        let last = |made: &Made, picture: &Picture| match made.call {
+            Call::Filter { ctb, .. } => ctb as usize == picture.ctus() - 1,
+            _ => false,
+        };
+        let filtered = |made: &Made| {
+            let picture = made.state.picture;
+            (picture.ctb, picture.format, picture.depth) == (ctb, format, depth)
+                && picture.rows() == 2
+                && picture.columns() >= 2
+                && is_cut_short(&picture)
+                && last(made, &picture)
+        };
+        assert!(has(&calls, filtered), "CTB size {ctb}, format {format}, depth {depth}");
+    }
+    assert!(has(&calls, |made| made.state.picture.ctus() == 64 && made.answer.answer == Ok(Value::Rows(128))));
 }
 
 /// The proved program has room for all that is lent and given.
@@ -110,9 +139,9 @@ fn there_is_room() {
         match command {
             Command::Lengths(lengths) => assert!((0..8).all(|buffer| lengths[buffer] <= WHOLE[buffer])),
             Command::Poke { buffer, place, .. } => assert!(place < WHOLE[buffer]),
-            Command::Read { bins, .. } => assert!(bins.len() <= 64),
-            Command::Write { room, .. } => assert!(room <= 64),
-            Command::Deliver { samples, .. } => assert!(samples.number <= 1024 && samples.put_in.len() < 256),
+            Command::Read { bins, .. } => assert!(bins.len() <= ROOM),
+            Command::Write { room, .. } => assert!(room <= ROOM),
+            Command::Deliver { samples, .. } => assert!(samples.number <= DELIVERY && samples.put_in.len() < 256),
             _ => {}
         }
     }

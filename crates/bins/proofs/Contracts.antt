@@ -9,7 +9,8 @@ use native.Mathlib.Omega.{arith}
 use lib.IntN.{pos}
 use Rattle.standard.specs.declared.Offsets.the-variants.{Off, Band}
 use Rattle.standard.specs.declared.CtuSet.{CtuSet}
-use Rattle.standard.specs.Sets.{Switches, allOff}
+use Rattle.standard.specs.declared.Switches.{Switches}
+use Rattle.standard.specs.Sets.{allOff}
 use Rattle.standard.specs.Bins.{typeIdx}
 use Rattle.standard.specs.Means.{Means, Early, Remain}
 use Rattle.standard.proofs.Codes.{Got, got, short, impossible}

@@ -8,7 +8,8 @@ use lib.Dec.{eqb}
 use lib.IntN.{ℤ, pos, negℤ}
 use lib.ListN.{length, drop}
 use Rattle.standard.specs.declared.Offsets.the-variants.{Off, Band, Edge}
-use Rattle.standard.specs.Sets.{Switches, most}
+use Rattle.standard.specs.declared.Switches.{Switches}
+use Rattle.standard.specs.Sets.{most}
 use Rattle.standard.specs.Bins.{number}
 use Rattle.standard.proofs.Codes.{Got, got, short, then, Code, Spelled, pure, readBit, bit, both, as-code, in-turn, said-of}
 use Rattle.standard.proofs.Elements.{withHigh, fixedCode, after-bit, truncatedCode, signCode, Four, magnitudesCode, signsCode}

@@ -10,7 +10,8 @@ use lib.ListN.{length}
 use Rattle.standard.specs.declared.CtuSet.{CtuSet}
 use Rattle.standard.specs.declared.Near.{Near}
 use Rattle.standard.specs.declared.Near.the-variants as near
-use Rattle.standard.specs.Sets.{Switches, allOff}
+use Rattle.standard.specs.declared.Switches.{Switches}
+use Rattle.standard.specs.Sets.{allOff}
 use Rattle.standard.specs.Bins.{binsOf}
 use Rattle.standard.specs.Means.{anyOn}
 use Rattle.standard.proofs.Reader.{setOf, readCtu}
@@ -30,28 +31,24 @@ use Rattle.bins.proofs.Places.{left-over}
 
 -- ---- the reader of a CTU, by the switches and the neighbours
 
-by-switches : (a b : Bool) (depths : ℕ → ℕ) (left up : Option CtuSet) (l : List Bool)
-    → let s : Switches = record { luma = a; chroma = b; depths = depths } in
-    anyOn s ≡ true → readCtu s left up l ≡ mergeCode left (mergeCode up (fullCode s)) .read l
-unfolding readCtu ctuCode codeBy as-code
-by-switches true b depths left up l on = then-as-is _
-by-switches false true depths left up l on = then-as-is _
-by-switches false false depths left up l on = impossible cc
+module _ (s : Switches) (left up : Option CtuSet) where
+  code-on : (on : Bool) (e : anyOn s ≡ on) (l : List Bool) → on ≡ true → codeBy s left up on e .read l ≡ mergeCode left (mergeCode up (fullCode s)) .read l
+  unfolding codeBy as-code
+  code-on true e l h = then-as-is _
+  code-on false e l h = impossible cc
 
-pub read-on : (s : Switches) (left up : Option CtuSet) (l : List Bool) → anyOn s ≡ true
-    → readCtu s left up l ≡ mergeCode left (mergeCode up (fullCode s)) .read l
-read-on s left up l on = by-switches (s .luma) (s .chroma) (s .depths) left up l on
+  pub read-on : (l : List Bool) → anyOn s ≡ true → readCtu s left up l ≡ mergeCode left (mergeCode up (fullCode s)) .read l
+  unfolding readCtu ctuCode
+  read-on l on = code-on (anyOn s) refl l on
 
-by-no-switch : (a b : Bool) (depths : ℕ → ℕ) (left up : Option CtuSet) (l : List Bool)
-    → let s : Switches = record { luma = a; chroma = b; depths = depths } in
-    anyOn s ≡ false → readCtu s left up l ≡ got allOff l
-unfolding readCtu ctuCode codeBy as-code pure
-by-no-switch true b depths left up l off = impossible cc
-by-no-switch false true depths left up l off = impossible cc
-by-no-switch false false depths left up l off = refl
+  code-off : (on : Bool) (e : anyOn s ≡ on) (l : List Bool) → on ≡ false → codeBy s left up on e .read l ≡ got allOff l
+  unfolding codeBy as-code pure
+  code-off true e l h = impossible cc
+  code-off false e l h = refl
 
-pub read-off : (s : Switches) (left up : Option CtuSet) (l : List Bool) → anyOn s ≡ false → readCtu s left up l ≡ got allOff l
-read-off s left up l off = by-no-switch (s .luma) (s .chroma) (s .depths) left up l off
+  pub read-off : (l : List Bool) → anyOn s ≡ false → readCtu s left up l ≡ got allOff l
+  unfolding readCtu ctuCode
+  read-off l off = code-off (anyOn s) refl l off
 
 module _ {I : CtuSet → List Bool → Type 0} (c : Code I) where
   no-merge : (l : List Bool) → mergeCode none c .read l ≡ c .read l

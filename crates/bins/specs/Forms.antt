@@ -6,7 +6,7 @@ use mathlib.Core.Option.{Option, some, none}
 use Prim.Native.Nat.{ℕ}
 use Rattle.standard.specs.declared.Offsets.{Offsets}
 use Rattle.standard.specs.declared.CtuSet.{CtuSet}
-use Rattle.standard.specs.Sets.{Switches}
+use Rattle.standard.specs.declared.Switches.{Switches}
 use Rattle.standard.proofs.Codes.{Got, got, short, then, bit}
 use Rattle.standard.proofs.Components.{edgeSignedCode, edgeOf}
 use Rattle.standard.proofs.Ctu.{fullCode}

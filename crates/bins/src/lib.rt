@@ -3,15 +3,13 @@
 use standard::CtuSet;
 use standard::Near;
 use standard::Offsets;
-use standard::Picture;
+use standard::Switches;
 ghost use mathlib.Core.Path.{_≡_};
 ghost use mathlib.Core.Bool.{cond, true};
 ghost use mathlib.Core.Option.{some};
 ghost use Prim.Native.Nat.{_*_, _≤_, _<_};
 ghost use lib.IntN.{pos, negℤ};
 ghost use lib.ListN.{length, drop, getD};
-ghost use Rattle.standard.specs.Picture.{Rules};
-ghost use Rattle.standard.specs.Sets.{switchesOf, most};
 ghost use Rattle.standard.specs.Means.{anyOn};
 ghost use Rattle.standard.proofs.Reader.{setOf, readCtu};
 ghost use Rattle.standard.specs.Bins.{bitsOf, binsOf, number};
@@ -107,13 +105,6 @@ pub enum Answer {
     BinsRemain,
 }
 
-// The largest magnitudes.
-struct Largest {
-    luma: u32,
-    cb: u32,
-    cr: u32,
-}
-
 // The byte at i, and 0 past the end.
 fn byte_at(bytes: &[u8], i: usize) -> u64
     ensures { λ r. ⌜ r ≡ getD (now (bytes .entry)) i 0 ⌝ }
@@ -141,17 +132,6 @@ fn offset(v: u32, negative: bool) -> i8
 {
     let n = v as i32;
     if negative { (0 - n) as i8 } else { n as i8 }
-}
-
-// M of each component.
-fn largest_of(p: Picture) -> Largest
-    ensures { λ r. ⌜ (r .luma ≡ most (switchesOf p) 0) × (r .cb ≡ most (switchesOf p) 1) × (r .cr ≡ most (switchesOf p) 2) ⌝ }
-{
-    Largest {
-        luma: geometry::most_of(p, 0),
-        cb: geometry::most_of(p, 1),
-        cr: geometry::most_of(p, 2),
-    }
 }
 
 impl Cursor {
@@ -455,16 +435,20 @@ impl Cursor {
     }
 
     // The full form.
-    fn full(self, bytes: &[u8], p: Picture) -> SetTaken
+    fn full(self, bytes: &[u8], s: Switches) -> SetTaken
         requires { ⌜ Within (now bytes) self ⌝ }
-        requires { ⌜ Rules p ⌝ }
-        ensures { λ r. ⌜ Reads (now (bytes .entry)) self (fullCode (switchesOf p) .read) (setTaken r) ⌝ }
+        ensures { λ r. ⌜ Reads (now (bytes .entry)) self (fullCode s .read) (setTaken r) ⌝ }
     {
-        let m = largest_of(p);
-        let ComponentTaken::Value(luma, c1) = self.luma(bytes, p.luma, m.luma) else {
+        let ComponentTaken::Value(luma, c1) = self.luma(bytes, s.luma, geometry::most_of(s, 0))
+        else {
             return SetTaken::Short;
         };
-        let ChromaTaken::Value(cb, cr, c2) = c1.chroma(bytes, p.chroma, m.cb, m.cr) else {
+        let ChromaTaken::Value(cb, cr, c2) = c1.chroma(
+            bytes,
+            s.chroma,
+            geometry::most_of(s, 1),
+            geometry::most_of(s, 2),
+        ) else {
             return SetTaken::Short;
         };
         SetTaken::Value(CtuSet { luma, cb, cr }, c2)
@@ -483,10 +467,9 @@ impl Cursor {
     }
 
     // Merge left, else merge up, else the full form.
-    fn form(self, bytes: &[u8], p: Picture, has_left: bool, has_up: bool) -> FormTaken
+    fn form(self, bytes: &[u8], s: Switches, has_left: bool, has_up: bool) -> FormTaken
         requires { ⌜ Within (now bytes) self ⌝ }
-        requires { ⌜ Rules p ⌝ }
-        ensures { λ r. ⌜ Reads (now (bytes .entry)) self (formRead (switchesOf p) «has_left» «has_up») (formTaken r) ⌝ }
+        ensures { λ r. ⌜ Reads (now (bytes .entry)) self (formRead s «has_left» «has_up») (formTaken r) ⌝ }
     {
         let FlagTaken::Value(left, c1) = self.merge(bytes, has_left) else {
             return FormTaken::Short;
@@ -500,7 +483,7 @@ impl Cursor {
         if up {
             return FormTaken::Value(Form::Up, c2);
         }
-        let SetTaken::Value(q, c3) = c2.full(bytes, p) else {
+        let SetTaken::Value(q, c3) = c2.full(bytes, s) else {
             return FormTaken::Short;
         };
         FormTaken::Value(Form::Full(q), c3)
@@ -508,14 +491,13 @@ impl Cursor {
 }
 
 // The form of the bins of a CTU that has some.
-fn coded_form(p: Picture, has_left: bool, has_up: bool, bytes: &[u8], count: usize) -> Form
-    requires { ⌜ Rules p ⌝ }
+fn coded_form(s: Switches, has_left: bool, has_up: bool, bytes: &[u8], count: usize) -> Form
     requires { ⌜ count ≤ 8 * length (now bytes) ⌝ }
-    requires { ⌜ anyOn (switchesOf p) ≡ true ⌝ }
-    ensures { λ r. ⌜ ReadAs (switchesOf p) «has_left» «has_up» (binsOf (now (bytes .entry)) count) r ⌝ }
+    requires { ⌜ anyOn s ≡ true ⌝ }
+    ensures { λ r. ⌜ ReadAs s «has_left» «has_up» (binsOf (now (bytes .entry)) count) r ⌝ }
 {
     let start = Cursor { at: 0, count };
-    let FormTaken::Value(form, end) = start.form(bytes, p, has_left, has_up) else {
+    let FormTaken::Value(form, end) = start.form(bytes, s, has_left, has_up) else {
         return Form::TooEarly;
     };
     if end.at < count {
@@ -525,13 +507,12 @@ fn coded_form(p: Picture, has_left: bool, has_up: bool, bytes: &[u8], count: usi
 }
 
 // The form of a CTU's bins, of a count that the caller has held to the bytes. With both switches off a CTU has none, and is off.
-pub fn read_form(p: Picture, has_left: bool, has_up: bool, bytes: &[u8], count: usize) -> Form
-    requires { ⌜ Rules p ⌝ }
+pub fn read_form(s: Switches, has_left: bool, has_up: bool, bytes: &[u8], count: usize) -> Form
     requires { ⌜ count ≤ 8 * length (now bytes) ⌝ }
-    ensures { λ r. ⌜ ReadAs (switchesOf p) «has_left» «has_up» (binsOf (now (bytes .entry)) count) r ⌝ }
+    ensures { λ r. ⌜ ReadAs s «has_left» «has_up» (binsOf (now (bytes .entry)) count) r ⌝ }
 {
-    if geometry::any_on(p) {
-        return coded_form(p, has_left, has_up, bytes, count);
+    if geometry::any_on(s) {
+        return coded_form(s, has_left, has_up, bytes, count);
     }
     if count > 0 {
         return Form::BinsRemain;
@@ -564,12 +545,11 @@ fn merged(n: Near) -> Answer
 }
 
 // The set that a CTU's bins mean.
-pub fn read_ctu(p: Picture, left: Near, up: Near, bytes: &[u8], count: usize) -> Answer
-    requires { ⌜ Rules p ⌝ }
+pub fn read_ctu(s: Switches, left: Near, up: Near, bytes: &[u8], count: usize) -> Answer
     requires { ⌜ count ≤ 8 * length (now bytes) ⌝ }
-    ensures { λ r. ⌜ r ≡ answerOf (readCtu (switchesOf p) (setOf left) (setOf up) (binsOf (now (bytes .entry)) count)) ⌝ }
+    ensures { λ r. ⌜ r ≡ answerOf (readCtu s (setOf left) (setOf up) (binsOf (now (bytes .entry)) count)) ⌝ }
 {
-    let form = read_form(p, is_there(left), is_there(up), bytes, count);
+    let form = read_form(s, is_there(left), is_there(up), bytes, count);
     match form {
         Form::Left => merged(left),
         Form::Up => merged(up),

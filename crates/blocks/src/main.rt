@@ -7,8 +7,12 @@
 //      0   width and height of the plane, its bit depth, the manner of its samples
 //      4   the block: columns x0 up to and without x1, rows y0 up to and without y1
 //      8   the set, as a component's six bytes of the table
-//     14   1 where the samples are printed too; 15 is 0
+//     14   1 where the samples are printed too
+//     15   eight bits: a 1 bars a neighbour of the block, from the lowest bit on northwest, north,
+//          northeast, west, east, southwest, south, southeast
 //     16   eight bytes from which the deblocked samples are made
+//
+// No sample of the block is compared with one of a neighbour that is barred or outside the plane.
 //
 // The deblocked samples. The first four of the eight bytes are a number x, the next two a level, the
 // low byte first, and the next one less than a period. For place i of the plane, row after row, x
@@ -27,14 +31,23 @@
 use records::pair;
 use records::print_word;
 use records::wide;
+use samples::Around;
 use standard::Layout;
 use standard::Offsets;
 use standard::Rectangle;
 ghost use mathlib.Core.Path.{_≡_};
 ghost use Prim.Native.Nat.{_*_, _<_, _≤_};
 ghost use Rattle.standard.specs.Refusals.{Tells};
+ghost use mathlib.Core.Bool.{true};
+ghost use Rattle.samples.specs.Around.{NoMore};
 ghost use Rattle.samples.specs.Blocks.{Legal};
 ghost use Rattle.blocks.specs.Sound.{Sound};
+
+// The largest plane: a block of 64x64, a sample around it, and as much again, so that the block can
+// lie anywhere in it. Any width and height will do whose product is no larger.
+const SIDE: usize = 130;
+
+const PLANE: usize = SIDE * SIDE;
 
 // ---- samples
 
@@ -143,6 +156,31 @@ fn block_of(record: &[u8; 24]) -> Rectangle {
     }
 }
 
+// ---- what may be compared
+
+// What an answer said, unless the bit of this weight bars it.
+fn unless_barred(said: bool, bars: u8, weight: u8) -> bool
+    requires { ⌜ 0 < weight ⌝ }
+    ensures { λ r. ⌜ (r ≡ true → said ≡ true) ⌝ }
+{
+    if bars / weight % 2 == 1 { false } else { said }
+}
+
+fn with_bars(o: Around, bars: u8) -> Around
+    ensures { λ p. ⌜ NoMore p o ⌝ }
+{
+    Around {
+        northwest: unless_barred(o.northwest, bars, 1),
+        north: unless_barred(o.north, bars, 2),
+        northeast: unless_barred(o.northeast, bars, 4),
+        west: unless_barred(o.west, bars, 8),
+        east: unless_barred(o.east, bars, 16),
+        southwest: unless_barred(o.southwest, bars, 32),
+        south: unless_barred(o.south, bars, 64),
+        southeast: unless_barred(o.southeast, bars, 128),
+    }
+}
+
 // ---- filtered
 
 fn is_legal(set: Offsets) -> bool
@@ -196,7 +234,7 @@ fn area(w: usize, h: usize) -> usize
 }
 
 // Filters the block if the planes are its own and no sample is above the depth, and says so.
-fn filter(l: Layout, set: Offsets, r: Rectangle, plane: &[u16], out: &mut [u16]) -> bool
+fn filter(l: Layout, set: Offsets, bars: u8, r: Rectangle, plane: &[u16], out: &mut [u16]) -> bool
     requires { ⌜ Sound l set r ⌝ }
 {
     let n = area(l.width, l.height);
@@ -210,7 +248,8 @@ fn filter(l: Layout, set: Offsets, r: Rectangle, plane: &[u16], out: &mut [u16])
     if planes::some_above(plane, l.width, l.height, r, top) {
         return false;
     }
-    samples::filter_block(l, set, r, plane, out);
+    let o = with_bars(samples::in_picture(l, r), bars);
+    samples::filter_block(l, set, o, r, plane, out);
     true
 }
 
@@ -271,7 +310,7 @@ fn filter_and_print(record: &[u8; 24], plane: &mut [u16], out: &mut [u16]) {
         return;
     }
     fill(record, planes::top_of(l.depth), plane);
-    let is_filtered = filter(l, set, r, plane, out);
+    let is_filtered = filter(l, set, record[15], r, plane, out);
     if is_filtered {
         print(out, record[14] != 0);
     } else {
@@ -298,8 +337,8 @@ fn turn() -> bool {
     if io::read_full(0, &mut record) < 24 {
         return false;
     }
-    let mut plane = [0u16; 2048];
-    let mut out = [65535u16; 2048];
+    let mut plane = [0u16; PLANE];
+    let mut out = [65535u16; PLANE];
     answer(&record, &mut plane, &mut out);
     true
 }

@@ -2,12 +2,10 @@
 // of bins answers. The records, and the lines that they must give, are written by the second program
 // (second/src/stored.rs): `rt check` holds what this one prints to them.
 //
-// A record is a head of 72 bytes and a body of 56. In the head stand, numbers of two bytes with the
-// low one first:
+// A record is a head of 72 bytes and a body of 56. The head begins with three sets, as the first entries
+// of a table: the left neighbour's, the upper neighbour's, and the one to be written. After them stand,
+// numbers of two bytes with the low one first:
 //
-//      0   the left neighbour's set, as an entry of the table
-//     18   the upper neighbour's
-//     36   the set to be written
 //     54   1 where there is a left neighbour, 55 where there is an upper one, else 0
 //     56   0 to read, 1 to write
 //     57   the description: format, depth, luma switch, chroma switch; 61 is 0
@@ -15,7 +13,7 @@
 //     68   how many bins there are to be read, of two bytes
 //     70   how many bytes of the body are lent: bins to be read, or room for those to be written; 71 is 0
 //
-// A line has the set that was read, as its 18 bytes of the table, or that the bins end too "early" or
+// A line has the set that was read, as its bytes in a table, or that the bins end too "early" or
 // that some "remain"; the number of bins that were written, or that there is "no room", and after a
 // colon all bytes that were lent. Or it names what the stage would refuse before it comes to the bins:
 // the "description", a stored set of a "neighbour", the "set" to be written, the "count" of bins.
@@ -25,8 +23,10 @@ use records::wide;
 use standard::CtuSet;
 use standard::Near;
 use standard::Picture;
+use standard::SET_BYTES;
+use standard::State;
+use standard::Switches;
 ghost use Prim.Native.Nat.{_<_};
-ghost use Rattle.standard.specs.Picture.{Rules};
 
 // A neighbour as the record has it: none, its set, or an entry that is no set within the rules.
 enum Neighbour {
@@ -47,9 +47,9 @@ fn print_bytes(bytes: &[u8]) {
 }
 
 fn print_set(q: CtuSet) {
-    let mut entry = [0u8; 18];
-    sets::put_set(&mut entry, 0, q);
-    print_bytes(&entry);
+    let mut bytes = [0u8; SET_BYTES];
+    sets::say_set(&mut bytes, q);
+    print_bytes(&bytes);
     io::write_all(1, b"\n");
 }
 
@@ -75,13 +75,13 @@ fn picture_of(head: &[u8; 72]) -> Picture {
 }
 
 // The neighbour of entry k.
-fn neighbour_at(p: Picture, head: &[u8; 72], is_there: u8, k: usize) -> Neighbour
+fn neighbour_at(s: Switches, head: &[u8; 72], is_there: u8, k: usize) -> Neighbour
     requires { ⌜ k < 3 ⌝ }
 {
     if is_there == 0 {
         return Neighbour::Nothing;
     }
-    match sets::get_set(p, head, k) {
+    match sets::get_set(s, head, k) {
         sets::Found::Set(q) => Neighbour::Set(q),
         sets::Found::Bad => Neighbour::Bad,
     }
@@ -105,16 +105,15 @@ fn near(n: Neighbour) -> Near {
 
 // ---- the answers
 
-// The set as its 18 bytes, or what is wrong with the bins.
-fn read(p: Picture, left: Neighbour, up: Neighbour, bytes: &[u8], count: usize)
-    requires { ⌜ Rules p ⌝ }
+// The bytes of the set, or what is wrong with the bins.
+fn read(s: Switches, left: Neighbour, up: Neighbour, bytes: &[u8], count: usize)
     requires { ⌜ count < 65536 ⌝ }
 {
     if (count + 7) / 8 > bytes.len() {
         print_word(b"count");
         return;
     }
-    match bins::read_ctu(p, near(left), near(up), bytes, count) {
+    match bins::read_ctu(s, near(left), near(up), bytes, count) {
         bins::Answer::Set(q) => print_set(q),
         bins::Answer::TooEarly => print_word(b"early"),
         bins::Answer::BinsRemain => print_word(b"remain"),
@@ -122,10 +121,8 @@ fn read(p: Picture, left: Neighbour, up: Neighbour, bytes: &[u8], count: usize)
 }
 
 // The number of bins, or that there is no room for them; then all bytes that were lent.
-fn write(p: Picture, left: Neighbour, up: Neighbour, q: CtuSet, room: &mut [u8])
-    requires { ⌜ Rules p ⌝ }
-{
-    match writer::write_set(p, near(left), near(up), q, room) {
+fn write(s: Switches, left: Neighbour, up: Neighbour, q: CtuSet, room: &mut [u8]) {
+    match writer::write_set(s, near(left), near(up), q, room) {
         writer::Wrote::Bins(n) => {
             io::print_decimal(1, n as u64);
         }
@@ -138,19 +135,15 @@ fn write(p: Picture, left: Neighbour, up: Neighbour, q: CtuSet, room: &mut [u8])
     io::write_all(1, b"\n");
 }
 
-fn write_if_a_set(p: Picture, left: Neighbour, up: Neighbour, head: &[u8; 72], room: &mut [u8])
-    requires { ⌜ Rules p ⌝ }
-{
-    match sets::get_set(p, head, 2) {
-        sets::Found::Set(q) => write(p, left, up, q, room),
+fn write_if_a_set(s: Switches, left: Neighbour, up: Neighbour, head: &[u8; 72], room: &mut [u8]) {
+    match sets::get_set(s, head, 2) {
+        sets::Found::Set(q) => write(s, left, up, q, room),
         sets::Found::Bad => print_word(b"set"),
     }
 }
 
 // Reads or writes, as the record says.
-fn call(p: Picture, left: Neighbour, up: Neighbour, head: &[u8; 72], body: &mut [u8])
-    requires { ⌜ Rules p ⌝ }
-{
+fn call(s: Switches, left: Neighbour, up: Neighbour, head: &[u8; 72], body: &mut [u8]) {
     let count = pair(head[68], head[69]) as usize;
     let lent = wide(head[70]);
     if lent > body.len() {
@@ -158,25 +151,26 @@ fn call(p: Picture, left: Neighbour, up: Neighbour, head: &[u8; 72], body: &mut 
         return;
     }
     if head[56] == 0 {
-        read(p, left, up, &body[..lent], count);
+        read(s, left, up, &body[..lent], count);
     } else {
-        write_if_a_set(p, left, up, head, &mut body[..lent]);
+        write_if_a_set(s, left, up, head, &mut body[..lent]);
     }
 }
 
 fn answer(head: &[u8; 72], body: &mut [u8]) {
-    let p = picture_of(head);
-    if !geometry::is_described(p) {
+    let picture = picture_of(head);
+    if !geometry::is_described(picture) {
         print_word(b"description");
         return;
     }
-    let left = neighbour_at(p, head, head[54], 0);
-    let up = neighbour_at(p, head, head[55], 1);
+    let s = geometry::switches_of(State { picture, next: 0 });
+    let left = neighbour_at(s, head, head[54], 0);
+    let up = neighbour_at(s, head, head[55], 1);
     if is_bad(left) || is_bad(up) {
         print_word(b"neighbour");
         return;
     }
-    call(p, left, up, head, body);
+    call(s, left, up, head, body);
 }
 
 // ---- record after record

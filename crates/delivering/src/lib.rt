@@ -1,4 +1,7 @@
 // Deliver: the samples of a CTB go into its component's plane, and its mark becomes 1.
+use lent::Bytes;
+use lent::Lent;
+use lent::Planes;
 use standard::Answer;
 use standard::Outcome;
 use standard::Picture;
@@ -7,9 +10,9 @@ use standard::State;
 ghost use mathlib.Core.Path.{_≡_};
 ghost use Prim.Native.Nat.{_*_, _<_};
 ghost use lib.ListN.{length};
-ghost use Rattle.standard.specs.Picture.{Rules, planeWidth, planeHeight, ctuCount, rectangle};
+ghost use Rattle.standard.specs.Picture.{Rules, components, planeWidth, planeHeight, ctuCount, rectangle};
 ghost use Rattle.standard.specs.Refusals.{Tells};
-ghost use Rattle.standard.specs.Reasons.{area, DeliveredSampleTooLarge, deliverReasons};
+ghost use Rattle.standard.specs.Reasons.{MarksFit, area, DeliveredSampleTooLarge, samplesReasons, deliverReasons};
 ghost use Rattle.standard.specs.Calls.{Written, delivered};
 ghost use Rattle.standard.specs.Contracts.{Judged, DeliverEnsures};
 
@@ -34,36 +37,12 @@ fn sample_too_large(state: State, component: u8, samples: &[u16]) -> bool
     planes::sample_above(samples, planes::top_of(depth))
 }
 
-// The reasons in document 01's order: the first that holds is the answer.
-fn deliver_answer(
-    state: State,
-    component: u8,
-    ctb: u32,
-    samples: &[u16],
-    y: &[u16],
-    cb: &[u16],
-    cr: &[u16],
-    marks: &[u8],
-) -> Answer
-    ensures { λ r. ⌜ Judged (deliverReasons state component ctb (now (samples .entry)) (record { y = now (y .entry); cb = now (cb .entry); cr = now (cr .entry) }) (now (marks .entry))) r ⌝ }
+// The samples, and the CTB's mark, in document 01's order: the first reason that holds is the answer.
+fn samples_answer(state: State, component: u8, ctb: u32, samples: &[u16], marks: &[u8]) -> Answer
+    requires { ⌜ Rules (state .picture) × MarksFit (state .picture) (now marks) × (component < components (state .picture)) × (ctb < ctuCount (state .picture)) ⌝ }
+    ensures { λ r. ⌜ Judged (samplesReasons state component ctb (now (samples .entry)) (now (marks .entry))) r ⌝ }
 {
     let p = state.picture;
-    let next = state.next;
-    if !geometry::is_described(p) {
-        return Answer::Refused(Refusal::Description);
-    }
-    if !lent::planes_fit(p, y, cb, cr) {
-        return Answer::Refused(Refusal::Length);
-    }
-    if !lent::marks_fit(p, marks) {
-        return Answer::Refused(Refusal::Length);
-    }
-    if (next as usize) > geometry::ctu_count(p) {
-        return Answer::Refused(Refusal::Stored);
-    }
-    if geometry::no_such_block(p, component, ctb) {
-        return Answer::Refused(Refusal::NoSuchBlock);
-    }
     if !samples_fit(p, component, ctb, samples) {
         return Answer::Refused(Refusal::Length);
     }
@@ -78,6 +57,30 @@ fn deliver_answer(
         return Answer::Refused(Refusal::SampleTooLarge);
     }
     Answer::Done
+}
+
+fn deliver_answer(
+    state: State,
+    component: u8,
+    ctb: u32,
+    samples: &[u16],
+    y: &[u16],
+    cb: &[u16],
+    cr: &[u16],
+    marks: &[u8],
+) -> Answer
+    ensures { λ r. ⌜ Judged (deliverReasons state component ctb (now (samples .entry)) (record { y = now (y .entry); cb = now (cb .entry); cr = now (cr .entry) }) (now (marks .entry))) r ⌝ }
+{
+    let lent = Lent {
+        deblocked: Planes::Lengths(y.len(), cb.len(), cr.len()),
+        filtered: Planes::NotLent,
+        marks: Bytes::Length(marks.len()),
+        table: Bytes::NotLent,
+    };
+    match lent::block_answer(state, lent, component, ctb) {
+        Answer::Refused(r) => Answer::Refused(r),
+        Answer::Done => samples_answer(state, component, ctb, samples, marks),
+    }
 }
 
 // ---- the call

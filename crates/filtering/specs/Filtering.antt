@@ -1,21 +1,18 @@
--- What the tests of this crate look for, and how its answer is put together: the list of reasons is the standard's, in three parts.
+-- What the tests of this crate look for, how its answer is put together, and what the filter of the block takes.
 use mathlib.Core.Path.{_≡_}
 use mathlib.Core.List.{List}
 use mathlib.Core.Logic.{_⊎_}
 use Prim.Native.Nat.{ℕ, _+_, _*_, _^_, _<_}
-use lib.ListN.{getD, take, drop}
+use lib.ListN.{getD}
 use Rattle.standard.specs.declared.Picture.{Picture}
 use Rattle.standard.specs.declared.State.{State}
 use Rattle.standard.specs.declared.Rectangle.{Rectangle}
 use Rattle.standard.specs.declared.Offsets.{Offsets}
-use Rattle.standard.specs.declared.Answer.{Answer}
-use Rattle.standard.specs.Picture.{Rules, depthOf, components, planeWidth, ctuCount, Inside, rectangle, Adjacent}
-use Rattle.standard.specs.Sets.{componentOf}
-use Rattle.standard.specs.Samples.{at}
-use Rattle.standard.specs.Table.{stored}
+use Rattle.standard.specs.Picture.{Rules, depthOf, components, planeWidth, ctuCount, Inside, rectangle}
+use Rattle.standard.specs.Samples.{at, Waits, Scans}
+use Rattle.standard.specs.Table.{offsetsAt}
 use Rattle.standard.specs.Refusals.{Reason, First, Clear, numberOf}
-use Rattle.standard.specs.Reasons.{Planes, markOf, filterReasons}
-use Rattle.standard.specs.Contracts.{Judged}
+use Rattle.standard.specs.Reasons.{markOf, TooLarge}
 use Rattle.samples.specs.Blocks.{Legal}
 use Rattle.filtering.specs.declared.Ready.{Ready}
 use Rattle.filtering.specs.declared.Ready.the-variants as ready
@@ -41,29 +38,26 @@ RowOutside low high marks from n = (j : ℕ) × (j < n) × Outside low high (get
 abbrev pub MarkOutside : ℕ → ℕ → List ℕ → ℕ → ℕ → Rectangle → Type 0
 MarkOutside low high marks from w r = (x : ℕ) × (y : ℕ) × Inside r x y × Outside low high (getD marks (from + (y * w + x)) 0)
 
--- that of CTB k or of a neighbour
-abbrev pub WaitedOutside : Picture → ℕ → ℕ → List ℕ → ℕ → ℕ → Type 0
-WaitedOutside p i k marks low high = (j : ℕ) × Adjacent p k j × Outside low high (markOf p marks i j)
+-- that of a CTB that the filter of CTB k by this set waits for
+abbrev pub WaitedOutside : Picture → ℕ → Offsets → ℕ → List ℕ → ℕ → ℕ → Type 0
+WaitedOutside p i set k marks low high = (j : ℕ) × Waits p set k j × Outside low high (markOf p marks i j)
 
--- ---- the reasons in parts
+-- ---- samples
 
--- 14, 11 and 10, of marks and sets: no plane has a say
-abbrev pub MarksJudged : State → ℕ → ℕ → List ℕ → Answer → Type 0
-MarksJudged s i k marks r = (deblocked filtered : Planes) (table : List ℕ) → Judged (take 3 (drop 4 (filterReasons s i k deblocked filtered marks table))) r
+-- one that the filter of CTB k by this set looks at exceeds the depth
+abbrev pub ScannedTooLarge : State → ℕ → Offsets → ℕ → List ℕ → Type 0
+ScannedTooLarge s i set k plane = (x : ℕ) × (y : ℕ) × Scans (s .picture) i set k x y × TooLarge s i (at plane (planeWidth (s .picture) i) x y)
+
+-- ---- the answer
 
 -- the set that CTB k of component i is filtered with
 pub record Chosen (i k : ℕ) (table : List ℕ) (set : Offsets) : Type 0 where
-  pub is : set ≡ componentOf (stored table k) i
+  pub is : set ≡ offsetsAt table i k
   pub legal : Legal set
 
 abbrev pub Readied : List Reason → ℕ → ℕ → List ℕ → Ready → Type 0
 Readied reasons i k table (ready.Go set) = Clear reasons × Chosen i k table set
 Readied reasons i k table (ready.Refused r) = First reasons (numberOf r)
-
--- 14 and 14, of the own set and of deblocked samples
-abbrev pub SetJudged : State → ℕ → ℕ → Planes → List ℕ → Ready → Type 0
-SetJudged s i k deblocked table r =
-    (filtered : Planes) (marks : List ℕ) → Readied (drop 7 (filterReasons s i k deblocked filtered marks table)) i k table r
 
 -- ---- the block
 

@@ -1,23 +1,21 @@
--- What the verdict of finished rows gives: marks by their places, what an accepted call may assume, the number of rows, and the part.
+-- What the verdict of finished rows gives: marks by their places, the number of rows, and the part.
 use mathlib.Core.Bool.{Bool}
 use mathlib.Core.Path.{_≡_, refl, sym, ap, ap₂, _∙_, subst}
 use mathlib.Core.List.{List, []}
-use mathlib.Core.Logic.{inl, inr, ⊎-elim, Dec·not-not}
+use mathlib.Core.Logic.{inl, inr, ⊎-elim}
 use Prim.Native.Nat.{ℕ, zero, suc, _+_, _*_, _≤_, _<_, min}
 use native.Mathlib.Nat.{min-le-right}
-use native.Mathlib.Decide.{ℕ-discrete}
 use native.Mathlib.Omega.{arith}
 use lib.ListN.{length, getD, take}
 use Rattle.standard.specs.declared.Picture.{Picture}
 use Rattle.standard.specs.declared.State.{State}
 use Rattle.standard.specs.Picture.{Rules, components, planeWidth, planeHeight, samplesOf, ctbHeight, columns, rows, ctuCount}
 use Rattle.standard.specs.Refusals.{First, Clear, Tells}
-use Rattle.standard.specs.Reasons.{Planes, planeOf, PlanesFit, MarksFit, markPlace, markOf, MarkAboveTwo, rowsReasons}
+use Rattle.standard.specs.Reasons.{Planes, planeOf, MarksFit, markPlace, markOf, MarkAboveTwo, rowsReasons}
 use Rattle.standard.specs.Calls.{FinishedRows}
 use Rattle.standard.specs.Contracts.{PartEnsures}
 use Rattle.standard.proofs.Answers.{tell-same}
 use Rattle.standard.proofs.Numbers.{first-not-clear}
-use Rattle.standard.proofs.Judging.{rules?}
 use Rattle.geometry.proofs.Marks.{mark-from, marks-le}
 use Rattle.finishing.specs.Marks.{SomeAboveTwo, RowsFiltered}
 use Rattle.finishing.proofs.Rows.{one-number}
@@ -63,26 +61,6 @@ module _ (s : State) (i : ℕ) (marks : List ℕ) where
 
 pub rows-few : {marks : List ℕ} {from n h row : ℕ} → RowsFiltered marks from n h row → row ≤ h
 rows-few f = ⊎-elim (λ e. omega arith) (λ u. omega (arith, u .0)) (f .ends)
-
--- ---- an accepted call
-
-pub record Accepted (s : State) (i : ℕ) (filtered : Planes) (marks : List ℕ) : Type 0 where
-  pub rules : Rules (s .picture)
-  pub planes : PlanesFit (s .picture) filtered
-  pub marked : MarksFit (s .picture) marks
-  pub there : i < components (s .picture)
-
--- numbers that are not unequal are equal
-equal : {P : Type 0} (m n : ℕ) → (P → m ≡ n) → ¬ (¬ P) → m ≡ n
-equal m n f h = Dec·not-not (ℕ-discrete m n) .0 (λ k. h (λ t. k (f t)))
-
-pub accepted : (s : State) (i : ℕ) (filtered : Planes) (marks : List ℕ) → Clear (rowsReasons s i filtered marks) → Accepted s i filtered marks
-accepted s i filtered marks c = record {
-  rules = Dec·not-not (rules? (s .picture)) .0 (c .0);
-  planes = record { y = equal _ _ (λ t. t .0 .y) (c .1 .0); cb = equal _ _ (λ t. t .0 .cb) (c .1 .0); cr = equal _ _ (λ t. t .0 .cr) (c .1 .0) };
-  marked = equal _ _ (λ t. t .1) (c .1 .0);
-  there = let n = c .1 .1 .1 .0 in omega arith;
-}
 
 -- ---- the part
 

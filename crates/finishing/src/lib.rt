@@ -4,30 +4,19 @@ ghost use Prim.Native.Nat.{_+_, _*_, _≤_, min};
 ghost use lib.ListN.{length};
 ghost use Rattle.standard.specs.Picture.{Rules};
 ghost use Rattle.standard.specs.Refusals.{Tells};
-ghost use Rattle.standard.specs.Reasons.{PlanesFit, MarksFit, rowsReasons};
+ghost use Rattle.standard.specs.Reasons.{MarksFit, marksReasons, rowsReasons};
 ghost use Rattle.standard.specs.Contracts.{Judged, RowsEnsures, PartEnsures};
 ghost use Rattle.finishing.specs.Marks.{SomeAboveTwo, SomeUnfiltered, RowsFiltered};
+use lent::Bytes;
+use lent::Lent;
+use lent::Planes;
 use standard::Answer;
-use standard::Picture;
 use standard::Refusal;
 use standard::RowsAnswer;
 use standard::RowsOutcome;
 use standard::State;
 
 // ---- the reasons
-
-fn lent_fit(p: Picture, y: &[u16], cb: &[u16], cr: &[u16], marks: &[u8]) -> bool
-    requires { ⌜ Rules p ⌝ }
-    ensures { λ r. ⌜ Tells (PlanesFit p (record { y = now (y .entry); cb = now (cb .entry); cr = now (cr .entry) }) × MarksFit p (now (marks .entry))) r ⌝ }
-{
-    if !lent::planes_fit(p, y, cb, cr) {
-        return false;
-    }
-    if !lent::marks_fit(p, marks) {
-        return false;
-    }
-    true
-}
 
 // Whether a mark above 2 is among the n from `from` on.
 fn some_above_two(marks: &[u8], from: usize, n: usize) -> bool
@@ -44,6 +33,22 @@ fn some_above_two(marks: &[u8], from: usize, n: usize) -> bool
     false
 }
 
+// The component, and its marks.
+fn marks_answer(state: State, component: u8, marks: &[u8]) -> Answer
+    requires { ⌜ Rules (state .picture) × MarksFit (state .picture) (now marks) ⌝ }
+    ensures { λ r. ⌜ Judged (marksReasons state component (now (marks .entry))) r ⌝ }
+{
+    let p = state.picture;
+    if geometry::no_such_component(p, component) {
+        return Answer::Refused(Refusal::NoSuchBlock);
+    }
+    let from = geometry::mark_place(p, component, 0);
+    if some_above_two(marks, from, geometry::ctu_count(p)) {
+        return Answer::Refused(Refusal::Stored);
+    }
+    Answer::Done
+}
+
 fn rows_answer(
     state: State,
     component: u8,
@@ -54,26 +59,15 @@ fn rows_answer(
 ) -> Answer
     ensures { λ r. ⌜ Judged (rowsReasons state component (record { y = now (y .entry); cb = now (cb .entry); cr = now (cr .entry) }) (now (marks .entry))) r ⌝ }
 {
-    let p = state.picture;
-    let next = state.next;
-    if !geometry::is_described(p) {
-        return Answer::Refused(Refusal::Description);
-    }
-    if !lent_fit(p, y, cb, cr, marks) {
-        return Answer::Refused(Refusal::Length);
-    }
-    let n = geometry::ctu_count(p);
-    if (next as usize) > n {
-        return Answer::Refused(Refusal::Stored);
-    }
-    if geometry::no_such_component(p, component) {
-        return Answer::Refused(Refusal::NoSuchBlock);
-    }
-    let from = geometry::mark_place(p, component, 0);
-    if some_above_two(marks, from, n) {
-        Answer::Refused(Refusal::Stored)
-    } else {
-        Answer::Done
+    let lent = Lent {
+        deblocked: Planes::NotLent,
+        filtered: Planes::Lengths(y.len(), cb.len(), cr.len()),
+        marks: Bytes::Length(marks.len()),
+        table: Bytes::NotLent,
+    };
+    match lent::call_answer(state, lent) {
+        Answer::Refused(r) => Answer::Refused(r),
+        Answer::Done => marks_answer(state, component, marks),
     }
 }
 

@@ -3,17 +3,20 @@ ghost use mathlib.Core.Path.{_≡_};
 ghost use mathlib.Core.Logic.{_⊎_};
 ghost use Prim.Native.Nat.{_+_, _-_, _*_, _/_, _^_, _≤_, _<_, min};
 ghost use Rattle.standard.specs.Picture.{Side, Rules, depthOf, components, planeWidth, planeHeight, samplesOf};
-ghost use Rattle.standard.specs.Picture.{ctbWidth, ctbHeight, columns, rows, ctuCount, rectangle, grown, address, leftOf, aboveOf};
-ghost use Rattle.standard.specs.Sets.{largest, most, switchesOf};
+ghost use Rattle.standard.specs.Picture.{ctbWidth, ctbHeight, columns, rows, ctuCount, rectangle, grown, due, leftOf, aboveOf, mergeLeft, mergeUp};
+ghost use Rattle.standard.specs.Sets.{largest, depthIn, most, switchesIn, switchesOf};
 ghost use Rattle.standard.specs.Means.{anyOn};
 ghost use Rattle.standard.specs.Samples.{shiftOf, layoutOf};
 ghost use Rattle.standard.specs.Table.{entrySize};
 ghost use Rattle.standard.specs.Reasons.{markCount, markPlace};
 ghost use Rattle.standard.specs.Refusals.{Tells};
 ghost use Rattle.geometry.specs.Geometry.{CtbSize, Counted, Divided, around, nearOf};
+use standard::ENTRY_BYTES;
 use standard::Layout;
 use standard::Picture;
 use standard::Rectangle;
+use standard::State;
+use standard::Switches;
 
 // What a component's width and height are divided by.
 pub struct Divisors {
@@ -80,13 +83,6 @@ pub fn is_described(p: Picture) -> bool
     true
 }
 
-// Whether a CTU of the picture has bins.
-pub fn any_on(p: Picture) -> bool
-    ensures { λ r. ⌜ r ≡ anyOn (switchesOf p) ⌝ }
-{
-    if p.luma { true } else { p.chroma }
-}
-
 // ---- bit depth
 
 pub fn depth_of(p: Picture, component: u8) -> u32
@@ -123,12 +119,50 @@ fn largest_magnitude(depth: u32) -> u32
     }
 }
 
+// ---- what bins and the rules of a set depend on
+
+pub fn switches_in(p: Picture) -> Switches
+    ensures { λ r. ⌜ r ≡ switchesIn p ⌝ }
+{
+    Switches {
+        luma: p.luma,
+        chroma: p.chroma,
+        y: depth_of(p, 0),
+        cb: depth_of(p, 1),
+        cr: depth_of(p, 2),
+    }
+}
+
+// Of the CTU that is due.
+pub fn switches_of(state: State) -> Switches
+    ensures { λ r. ⌜ r ≡ switchesOf state ⌝ }
+{
+    switches_in(state.picture)
+}
+
+// Whether a CTU has bins.
+pub fn any_on(s: Switches) -> bool
+    ensures { λ r. ⌜ r ≡ anyOn s ⌝ }
+{
+    if s.luma { true } else { s.chroma }
+}
+
+fn depth_in(s: Switches, component: u8) -> u32
+    ensures { λ r. ⌜ r ≡ depthIn s component ⌝ }
+{
+    match component {
+        0 => s.y,
+        1 => s.cb,
+        _ => s.cr,
+    }
+}
+
 // M of a component.
-pub fn most_of(p: Picture, component: u8) -> u32
-    ensures { λ r. ⌜ r ≡ most (switchesOf p) component ⌝ }
+pub fn most_of(s: Switches, component: u8) -> u32
+    ensures { λ r. ⌜ r ≡ most s component ⌝ }
     ensures { λ r. ⌜ r < 32 ⌝ }
 {
-    largest_magnitude(depth_of(p, component))
+    largest_magnitude(depth_in(s, component))
 }
 
 // ---- components and planes
@@ -346,18 +380,19 @@ pub fn table_size(p: Picture) -> usize
     requires { ⌜ Rules p ⌝ }
     ensures { λ r. ⌜ r ≡ entrySize * ctuCount p ⌝ }
 {
-    18 * ctu_count(p)
+    ENTRY_BYTES * ctu_count(p)
 }
 
 // ---- the order of reading
 
-pub fn address_of(p: Picture, n: u32) -> u32
-    ensures { λ r. ⌜ r ≡ address p n ⌝ }
+// The CTU that is due.
+pub fn due_of(state: State) -> u32
+    ensures { λ r. ⌜ r ≡ due state ⌝ }
 {
-    n
+    state.next
 }
 
-pub fn left_of(p: Picture, k: u32) -> Near
+fn left_of(p: Picture, k: u32) -> Near
     requires { ⌜ Rules p ⌝ }
     ensures { λ r. ⌜ nearOf r ≡ leftOf p k ⌝ }
 {
@@ -367,7 +402,7 @@ pub fn left_of(p: Picture, k: u32) -> Near
     Near::At(k - 1)
 }
 
-pub fn above_of(p: Picture, k: u32) -> Near
+fn above_of(p: Picture, k: u32) -> Near
     requires { ⌜ Rules p ⌝ }
     ensures { λ r. ⌜ nearOf r ≡ aboveOf p k ⌝ }
 {
@@ -376,4 +411,19 @@ pub fn above_of(p: Picture, k: u32) -> Near
         return Near::Nothing;
     }
     Near::At(k - (n as u32))
+}
+
+// The CTUs that a merge of the CTU that is due may reach.
+pub fn merge_left(state: State) -> Near
+    requires { ⌜ Rules (state .picture) ⌝ }
+    ensures { λ r. ⌜ nearOf r ≡ mergeLeft state ⌝ }
+{
+    left_of(state.picture, due_of(state))
+}
+
+pub fn merge_up(state: State) -> Near
+    requires { ⌜ Rules (state .picture) ⌝ }
+    ensures { λ r. ⌜ nearOf r ≡ mergeUp state ⌝ }
+{
+    above_of(state.picture, due_of(state))
 }

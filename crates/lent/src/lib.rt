@@ -1,52 +1,182 @@
-// What is lent: whether planes, marks and table have their right lengths, a mark of them, and whether
-// a CTU is due.
+// What the calls share: the reasons with which they begin, whether a CTU is due or a block is there, and
+// a mark.
 use standard::Answer;
 use standard::Picture;
 use standard::Refusal;
 use standard::State;
 ghost use mathlib.Core.Path.{_≡_};
+ghost use mathlib.Core.List.{_++_};
 ghost use Prim.Native.Nat.{_<_};
-ghost use Rattle.standard.specs.Picture.{Rules, components, ctuCount};
+ghost use Rattle.standard.specs.Picture.{Rules, components, samplesOf, ctuCount};
 ghost use Rattle.standard.specs.Refusals.{Tells};
-ghost use Rattle.standard.specs.Reasons.{PlanesFit, MarksFit, TableFits, markOf};
+ghost use Rattle.standard.specs.Reasons.{MarksFit, markOf, descriptionReasons, lentReasons, callReasons, dueReasons, blockReasons};
 ghost use Rattle.standard.specs.Contracts.{Judged};
-ghost use Rattle.lent.specs.Due.{dueReasons};
+ghost use Rattle.lent.specs.Lengths.{PlanesRight, BytesRight, LentRight};
 
-pub fn planes_fit(p: Picture, y: &[u16], cb: &[u16], cr: &[u16]) -> bool
+// ---- what a call is lent
+
+// How long three planes are, luma, Cb and Cr; or the call is not lent them.
+pub enum Planes {
+    NotLent,
+    Lengths(usize, usize, usize),
+}
+
+// How long some bytes are; or the call is not lent them.
+pub enum Bytes {
+    NotLent,
+    Length(usize),
+}
+
+pub struct Lent {
+    pub deblocked: Planes,
+    pub filtered: Planes,
+    pub marks: Bytes,
+    pub table: Bytes,
+}
+
+fn three_right(p: Picture, y: usize, cb: usize, cr: usize) -> bool
     requires { ⌜ Rules p ⌝ }
-    ensures { λ r. ⌜ Tells (PlanesFit p (record { y = now (y .entry); cb = now (cb .entry); cr = now (cr .entry) })) r ⌝ }
+    ensures { λ r. ⌜ Tells ((y ≡ samplesOf p 0) × (cb ≡ samplesOf p 1) × (cr ≡ samplesOf p 2)) r ⌝ }
 {
-    if y.len() != geometry::sample_count(p, 0) {
+    if y != geometry::sample_count(p, 0) {
         return false;
     }
-    if cb.len() != geometry::sample_count(p, 1) {
+    if cb != geometry::sample_count(p, 1) {
         return false;
     }
-    if cr.len() != geometry::sample_count(p, 2) {
+    if cr != geometry::sample_count(p, 2) {
         return false;
     }
     true
 }
 
-pub fn marks_fit(p: Picture, marks: &[u8]) -> bool
+fn planes_right(p: Picture, l: Planes) -> bool
     requires { ⌜ Rules p ⌝ }
-    ensures { λ r. ⌜ Tells (MarksFit p (now (marks .entry))) r ⌝ }
+    ensures { λ r. ⌜ Tells (PlanesRight p l) r ⌝ }
 {
-    if marks.len() != geometry::mark_count(p) {
-        return false;
+    match l {
+        Planes::NotLent => true,
+        Planes::Lengths(y, cb, cr) => three_right(p, y, cb, cr),
     }
-    true
 }
 
-pub fn table_fits(p: Picture, table: &[u8]) -> bool
-    requires { ⌜ Rules p ⌝ }
-    ensures { λ r. ⌜ Tells (TableFits p (now (table .entry))) r ⌝ }
+fn bytes_right(n: usize, l: Bytes) -> bool
+    ensures { λ r. ⌜ Tells (BytesRight n l) r ⌝ }
 {
-    if table.len() != geometry::table_size(p) {
+    match l {
+        Bytes::NotLent => true,
+        Bytes::Length(m) => m == n,
+    }
+}
+
+fn lent_right(p: Picture, l: Lent) -> bool
+    requires { ⌜ Rules p ⌝ }
+    ensures { λ r. ⌜ Tells (LentRight p l) r ⌝ }
+{
+    let deblocked = l.deblocked;
+    if !planes_right(p, deblocked) {
         return false;
     }
-    true
+    let filtered = l.filtered;
+    if !planes_right(p, filtered) {
+        return false;
+    }
+    let marks = l.marks;
+    if !bytes_right(geometry::mark_count(p), marks) {
+        return false;
+    }
+    let table = l.table;
+    bytes_right(geometry::table_size(p), table)
 }
+
+// ---- the reasons with which calls begin, in document 01's order
+
+// Of the description alone.
+pub fn described_answer(state: State) -> Answer
+    ensures { λ r. ⌜ Judged (descriptionReasons state) r ⌝ }
+{
+    if !geometry::is_described(state.picture) {
+        return Answer::Refused(Refusal::Description);
+    }
+    Answer::Done
+}
+
+// And of what is lent.
+pub fn lent_answer(state: State, lent: Lent) -> Answer
+    ensures { λ r. ⌜ Judged (lentReasons state (LentRight (state .picture) lent)) r ⌝ }
+{
+    match described_answer(state) {
+        Answer::Refused(r) => Answer::Refused(r),
+        Answer::Done => {
+            if !lent_right(state.picture, lent) {
+                return Answer::Refused(Refusal::Length);
+            }
+            Answer::Done
+        }
+    }
+}
+
+// And of the state.
+pub fn call_answer(state: State, lent: Lent) -> Answer
+    ensures { λ r. ⌜ Judged (callReasons state (LentRight (state .picture) lent)) r ⌝ }
+{
+    match lent_answer(state, lent) {
+        Answer::Refused(r) => Answer::Refused(r),
+        Answer::Done => {
+            if (state.next as usize) > geometry::ctu_count(state.picture) {
+                return Answer::Refused(Refusal::Stored);
+            }
+            Answer::Done
+        }
+    }
+}
+
+// Of all with which calls begin, and whether a CTU is due.
+pub fn due_answer(state: State, lent: Lent) -> Answer
+    ensures { λ r. ⌜ Judged (callReasons state (LentRight (state .picture) lent) ++ dueReasons state) r ⌝ }
+{
+    match call_answer(state, lent) {
+        Answer::Refused(r) => Answer::Refused(r),
+        Answer::Done => {
+            if (state.next as usize) >= geometry::ctu_count(state.picture) {
+                return Answer::Refused(Refusal::AllRead);
+            }
+            Answer::Done
+        }
+    }
+}
+
+// Of the description, and whether there is such a block.
+pub fn named_answer(state: State, component: u8, ctb: u32) -> Answer
+    ensures { λ r. ⌜ Judged (descriptionReasons state ++ blockReasons state component ctb) r ⌝ }
+{
+    match described_answer(state) {
+        Answer::Refused(r) => Answer::Refused(r),
+        Answer::Done => {
+            if geometry::no_such_block(state.picture, component, ctb) {
+                return Answer::Refused(Refusal::NoSuchBlock);
+            }
+            Answer::Done
+        }
+    }
+}
+
+// Of all with which calls begin, and whether there is such a block.
+pub fn block_answer(state: State, lent: Lent, component: u8, ctb: u32) -> Answer
+    ensures { λ r. ⌜ Judged (callReasons state (LentRight (state .picture) lent) ++ blockReasons state component ctb) r ⌝ }
+{
+    match call_answer(state, lent) {
+        Answer::Refused(r) => Answer::Refused(r),
+        Answer::Done => {
+            if geometry::no_such_block(state.picture, component, ctb) {
+                return Answer::Refused(Refusal::NoSuchBlock);
+            }
+            Answer::Done
+        }
+    }
+}
+
+// ---- a mark
 
 // The mark of a CTB.
 pub fn mark_of(p: Picture, component: u8, ctb: u32, marks: &[u8]) -> u8
@@ -55,26 +185,4 @@ pub fn mark_of(p: Picture, component: u8, ctb: u32, marks: &[u8]) -> u8
 {
     let i = geometry::mark_place(p, component, ctb);
     marks[i]
-}
-
-// The reasons that come first in reading and in writing, in document 01's order.
-pub fn due_answer(state: State, table: &[u8]) -> Answer
-    ensures { λ r. ⌜ Judged (dueReasons state (now (table .entry))) r ⌝ }
-{
-    let p = state.picture;
-    let next = state.next;
-    if !geometry::is_described(p) {
-        return Answer::Refused(Refusal::Description);
-    }
-    if !table_fits(p, table) {
-        return Answer::Refused(Refusal::Length);
-    }
-    let ctus = geometry::ctu_count(p);
-    if (next as usize) > ctus {
-        return Answer::Refused(Refusal::Stored);
-    }
-    if (next as usize) == ctus {
-        return Answer::Refused(Refusal::AllRead);
-    }
-    Answer::Done
 }

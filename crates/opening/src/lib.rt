@@ -3,22 +3,23 @@ ghost use mathlib.Core.Path.{_≡_};
 ghost use lib.ListN.{length, replicate};
 ghost use Rattle.standard.specs.Reasons.{openReasons};
 ghost use Rattle.standard.specs.Contracts.{Judged, OpenEnsures};
+use lent::Bytes;
+use lent::Lent;
+use lent::Planes;
 use standard::Answer;
 use standard::Outcome;
-use standard::Refusal;
 use standard::State;
 
 fn open_answer(state: State, marks: &[u8]) -> Answer
     ensures { λ r. ⌜ Judged (openReasons state (now (marks .entry))) r ⌝ }
 {
-    let p = state.picture;
-    if !geometry::is_described(p) {
-        return Answer::Refused(Refusal::Description);
-    }
-    if !lent::marks_fit(p, marks) {
-        return Answer::Refused(Refusal::Length);
-    }
-    Answer::Done
+    let lent = Lent {
+        deblocked: Planes::NotLent,
+        filtered: Planes::NotLent,
+        marks: Bytes::Length(marks.len()),
+        table: Bytes::NotLent,
+    };
+    lent::lent_answer(state, lent)
 }
 
 fn clear(marks: &mut [u8])

@@ -1,19 +1,18 @@
 -- What holds of every component's planes and marks at every moment, place by place: a delivered block holds the picture's own samples, a
 -- filtered one its final samples, and any other block what it held at opening. Delivering and filtering keep it.
-use mathlib.Core.Path.{_≡_, refl, sym, ap, _∙_, subst}
+use mathlib.Core.Path.{_≡_, refl, sym, _∙_, subst}
 use mathlib.Core.List.{List}
 use Prim.Native.Nat.{ℕ, _^_, _≤_, _<_}
 use native.Mathlib.Omega.{arith}
 use lib.ListN.{set, length-set}
 use Rattle.standard.specs.declared.Picture.{Picture}
-use Rattle.standard.specs.declared.Offsets.{Offsets}
 use Rattle.standard.specs.Picture.{Rules, depthOf, components, planeWidth, planeHeight, ctuCount, Inside, rectangle, ctbAt}
 use Rattle.standard.specs.Sets.{componentOf}
-use Rattle.standard.specs.Samples.{layoutOf, at, sample, Sees, Waits}
+use Rattle.standard.specs.Samples.{Parameters, at, filteredSample, Sees, Waits}
 use Rattle.standard.specs.Reasons.{Planes, planeOf, PlanesFit, MarksFit, markPlace, markOf}
 use Rattle.standard.specs.Calls.{delivered, BlockWritten}
 use Rattle.standard.proofs.Grid.{inside-ctb, ctb-inside, inside-count}
-use Rattle.standard.proofs.Seeing.{itself-seen, seen-waited, component-sees}
+use Rattle.standard.proofs.Seeing.{itself-seen, seen-waited, component-sees, SameFor, filtered-same}
 use Rattle.promises.specs.Demands.{Own, IsBlock, final}
 use Rattle.promises.proofs.Written.{Other, here-or-there, marked-here, marked-there, written-here, written-there, written-fits}
 
@@ -92,29 +91,30 @@ module _ {own : Own} {first : Planes} {p : Picture} {deblocked filtered : Planes
       there j l x y other jl h =
           same-place (v .places j l x y jl h) (marked-there p marks kl 1 j (inside-count rules j l h) other) (written-there rules b j l other h) refl
 
-  -- a block filtered by its own set, with all that it waits for delivered
-  module _ {offsets : Offsets} (is : offsets ≡ componentOf (own .sets k) i)
-      (waited : (j : ℕ) → Waits p offsets k j → 1 ≤ markOf p marks i j) where
+  -- a block filtered by its own parameters, with all that it waits for delivered
+  module _ (ps : Parameters) (same : SameFor p i k ps (own .parameters))
+      (waited : (j : ℕ) → Waits p (componentOf (ps .sets k) i) k j → 1 ≤ markOf p marks i j) where
     -- THE KEY: what its samples see is in delivered blocks, and so is the picture's own
-    own-seen : {x y a b : ℕ} → Inside (rectangle p i k) x y → a < planeWidth p i → b < planeHeight p i → Sees offsets x y a b
+    own-seen : {x y a b : ℕ} → Inside (rectangle p i k) x y → a < planeWidth p i → b < planeHeight p i → Sees (componentOf (ps .sets k) i) x y a b
         → (1 ≤ markOf p marks i (ctbAt p i a b)) × (at (planeOf deblocked i) (planeWidth p i) a b ≡ at (own .planes i) (planeWidth p i) a b)
     own-seen {x} {y} {a} {b} h al bl sees =
         let e = inside-ctb rules i k h in
-        let m = waited (ctbAt p i a b) (seen-waited rules i (e .2) (e .0) (e .1) al bl offsets sees) in
+        let m = waited (ctbAt p i a b) (seen-waited rules i (e .2) (e .0) (e .1) al bl (componentOf (ps .sets k) i) sees) in
         (m, v .places i (ctbAt p i a b) a b il (ctb-inside rules i al bl refl) .its-own m)
 
     itself : {x y : ℕ} → Inside (rectangle p i k) x y → 1 ≤ markOf p marks i k
     itself {x} {y} h =
         let e = inside-ctb rules i k h in
-        subst (λ (n : ℕ). 1 ≤ markOf p marks i n) (e .2) (own-seen h (e .0) (e .1) (itself-seen offsets x y) .0)
+        subst (λ (n : ℕ). 1 ≤ markOf p marks i n) (e .2) (own-seen h (e .0) (e .1) (itself-seen (componentOf (ps .sets k) i) x y) .0)
 
-    is-final : {x y : ℕ} → Inside (rectangle p i k) x y → sample (layoutOf p i) offsets (planeOf deblocked i) x y ≡ final own p i k x y
+    -- first the samples are replaced by the picture's own, and then the parameters
+    is-final : {x y : ℕ} → Inside (rectangle p i k) x y → filteredSample p ps i k (planeOf deblocked i) x y ≡ final own p i k x y
     is-final {x} {y} h =
         let e = inside-ctb rules i k h in
-        component-sees p i (planeOf deblocked i) (own .planes i) offsets (e .0) (e .1) (λ a b al bl sees. own-seen h al bl sees .1)
-        ∙ ap (λ (o : Offsets). sample (layoutOf p i) o (own .planes i) x y) is
+        component-sees p ps i (planeOf deblocked i) (own .planes i) (componentOf (ps .sets k) i) (e .0) (e .1) (λ a b al bl sees. own-seen h al bl sees .1)
+        ∙ filtered-same p ps (own .parameters) i k (own .planes i) x y same h
 
-    pub filter-kept : {after : Planes} → BlockWritten p i k (sample (layoutOf p i) offsets (planeOf deblocked i)) filtered after
+    pub filter-kept : {after : Planes} → BlockWritten p i k (filteredSample p ps i k (planeOf deblocked i)) filtered after
         → Blocks own first p deblocked after (set marks (markPlace p i k) 2)
     filter-kept {after} b = record {
       deblocked-fits = v .deblocked-fits;

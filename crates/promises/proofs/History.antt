@@ -1,47 +1,40 @@
 -- The history of a picture: every call, refused or not, keeps what holds of the world and moves it as accepted calls tell, and so do all of them.
-use mathlib.Core.Path.{_≡_, refl, ap}
+use mathlib.Core.Path.{_≡_, refl}
 use mathlib.Core.Bool.{Bool}
 use mathlib.Core.List.{List, [], _∷_}
-use mathlib.Core.Logic.{inl, inr}
-use Prim.Native.Nat.{ℕ, _^_, _≤_, _<_}
+use Prim.Native.Nat.{ℕ, _^_, _<_}
 use native.Mathlib.Decide.{decLt}
 use native.Mathlib.Omega.{arith}
 use lib.Pow.{pow-pos}
 use lib.ListN.{length, getD, List·getD-eq-default}
 use Rattle.standard.specs.declared.Picture.{Picture}
-use Rattle.standard.specs.declared.State.{State}
 use Rattle.standard.specs.declared.CtuSet.{CtuSet}
 use Rattle.standard.specs.Picture.{depthOf, components, ctuCount}
-use Rattle.standard.specs.Sets.{componentOf}
-use Rattle.standard.specs.Samples.{Waits}
-use Rattle.standard.specs.Table.{stored}
+use Rattle.standard.specs.Sets.{switchesOf, Valid}
+use Rattle.standard.specs.Table.{parametersIn}
 use Rattle.standard.specs.Refusals.{Clear}
-use Rattle.standard.specs.Reasons.{Planes, markOf, due, MeansHere, NoSuchComponentOrCtb}
+use Rattle.standard.specs.Reasons.{Planes, markOf, UnitIsDue}
 use Rattle.standard.specs.Calls.{Delivered, Filtered}
+use Rattle.standard.proofs.Called.{unit-next}
+use Rattle.standard.proofs.Granted.{may-read, may-write, MayDeliver, may-deliver, MayFilter, may-filter}
 use Rattle.promises.specs.World.{World, pictureOf, Call, Open, Read, Write, Deliver, Filter, Rows, refused, done, Accepted, Result, Stage, reasonsOf}
 use Rattle.promises.specs.Contract.{appended, withDelivered, withFiltered, unchanged, Contract}
-use Rattle.promises.specs.Demands.{Own, OwnData, NoOpening, Honest, run, Happened, Filters, Delivers, setsOf, setsIn}
+use Rattle.promises.specs.Demands.{Own, OwnSet, OwnData, NoOpening, Honest, run, Happened, Filters, Delivers, setsOf, setsIn}
 use Rattle.promises.proofs.Turns.{Acts, turn}
 use Rattle.promises.proofs.Written.{Other, here-or-there, marked-here, marked-there}
-use Rattle.promises.proofs.Stored.{own-in, here-valid, one-more-in}
+use Rattle.promises.proofs.Stored.{own-in, here-valid, copied-sound, one-more-in}
 use Rattle.promises.proofs.Blocks.{deliver-kept, filter-kept}
 use Rattle.promises.proofs.Invariant.{mark, Holds, Moved, idle, now-delivered, now-filtered, Moves, moves-then}
 
 -- ---- one call
 
-such-block : (s : State) (i k : ℕ) → ¬ NoSuchComponentOrCtb s i k → (i < components (s .picture)) × (k < ctuCount (s .picture))
-such-block s i k n =
-    let a : ¬ (components (s .picture) ≤ i) = λ h. n (inl h) in
-    let b : ¬ (ctuCount (s .picture) ≤ k) = λ h. n (inr h) in
-    (omega arith, omega arith)
-
-all-low : (samples : List ℕ) (bound : ℕ) → 0 < bound → ¬ ((n : ℕ) × (n < length samples) × (bound ≤ getD samples n 0)) → (n : ℕ) → getD samples n 0 < bound
-all-low samples bound p small n = go (decLt n (length samples)) (decLt (getD samples n 0) bound)
+-- beyond its end a list reads as 0, which is low too
+all-low : (samples : List ℕ) (bound : ℕ) → 0 < bound → ((n : ℕ) → n < length samples → getD samples n 0 < bound) → (n : ℕ) → getD samples n 0 < bound
+all-low samples bound p low n = go (decLt n (length samples))
   where
-    go : Dec (n < length samples) → Dec (getD samples n 0 < bound) → getD samples n 0 < bound
-    go d (yes h) = h
-    go (yes l) (no h) = absurd (small (n, l, omega arith))
-    go (no l) (no h) = let e : getD samples n 0 ≡ 0 = List·getD-eq-default samples 0 (omega arith) in omega arith
+    go : Dec (n < length samples) → getD samples n 0 < bound
+    go (yes l) = low n l
+    go (no l) = let e : getD samples n 0 ≡ 0 = List·getD-eq-default samples 0 (omega arith) in omega arith
 
 no-sets : (c : Call) (n : ℕ) → setsOf c (refused n) ≡ 0
 no-sets Open n = refl
@@ -67,25 +60,24 @@ module _ (own : Own) (first : Planes) where
     }
 
     -- a read or a write
-    append-does : (q : CtuSet) {bins : List Bool} → MeansHere (w .state) (w .table) q bins → ¬ (ctuCount (pictureOf w) ≤ w .state .next)
-        → q ≡ own .sets (due (w .state)) → Moves own first (λ i k. ⊥ × Unit {0}) (λ i k. ⊥ × Unit {0}) 1 w (appended w q)
-    append-does q means more e =
-        let l : w .state .next < ctuCount (pictureOf w) = omega arith in record {
-          picture = refl;
-          holds = record { rules = v .rules; sets = one-more-in (v .sets) l (here-valid (v .sets) l (v .rules) means) e; blocks = v .blocks };
-          marks = λ i k h. idle (λ t. t .0) (λ t. t .0) refl;
-          next = refl;
-        }
+    append-does : (q : CtuSet) → Valid (switchesOf (w .state)) q → UnitIsDue (w .state)
+        → OwnSet (own .parameters) (w .state) q → Moves own first (λ i k. ⊥ × Unit {0}) (λ i k. ⊥ × Unit {0}) 1 w (appended w q)
+    append-does q valid l e = record {
+      picture = refl;
+      holds = record { rules = v .rules; sets = one-more-in (v .sets) (unit-next (w .state) l) valid e; blocks = v .blocks };
+      marks = λ i k h. idle (λ t. t .0) (λ t. t .0) refl;
+      next = refl;
+    }
 
     deliver-does : (i k : ℕ) (samples : List ℕ) (planes : Planes) → Delivered (w .state) i k samples (w .deblocked) planes
-        → Clear (reasonsOf (Deliver i k samples) w) → OwnData own (Deliver i k samples) w done
+        → MayDeliver (w .state) i k samples (w .deblocked) (w .marks) → OwnData own (Deliver i k samples) w done
         → Does (Deliver i k samples) w (record { answer = done; out = []; world = withDelivered w i k planes })
-    deliver-does i k samples planes b free o = record {
+    deliver-does i k samples planes b may o = record {
       picture = refl;
       holds = record {
         rules = v .rules;
         sets = v .sets;
-        blocks = deliver-kept (v .rules) (v .blocks) il kl samples new (λ x y h. all-low samples (2 ^ depthOf p i) (pow-pos (depthOf p i)) small _) (o tt) b;
+        blocks = deliver-kept (v .rules) (v .blocks) il kl samples new (λ x y h. all-low samples (2 ^ depthOf p i) (pow-pos (depthOf p i)) (may .deliverable .low) _) (o tt) b;
       };
       marks = λ j l. here-or-there P i k j l (λ h. now-delivered (λ t. t .0) new (marked-here p (w .marks) kl 1 (v .blocks .marks-fit) il)) (there j l);
       next = omega arith;
@@ -95,19 +87,13 @@ module _ (own : Own) (first : Planes) where
         p = pictureOf w
 
         il : i < components p
-        il = such-block (w .state) i k (free .1 .1 .1 .0) .0
+        il = may .block .component
 
         kl : k < ctuCount p
-        kl = such-block (w .state) i k (free .1 .1 .1 .0) .1
+        kl = may .block .ctb
 
         new : markOf p (w .marks) i k ≡ 0
-        new =
-            let a : ¬ (2 < markOf p (w .marks) i k) = free .1 .1 .1 .1 .1 .0 in
-            let b : ¬ (markOf p (w .marks) i k ≡ 1) = λ h. free .1 .1 .1 .1 .1 .1 .0 (inl h) in
-            let c : ¬ (markOf p (w .marks) i k ≡ 2) = λ h. free .1 .1 .1 .1 .1 .1 .0 (inr h) in omega arith
-
-        small : ¬ ((n : ℕ) × (n < length samples) × (2 ^ depthOf p i ≤ getD samples n 0))
-        small = free .1 .1 .1 .1 .1 .1 .1 .0
+        new = may .deliverable .new
 
         P : ℕ → ℕ → Type 0
         P j l = l < ctuCount p → Moved (⊥ × Unit {0}) (((i ≡ j) × (k ≡ l)) × Unit {0}) (mark w j l) (mark (withDelivered w i k planes) j l)
@@ -116,10 +102,15 @@ module _ (own : Own) (first : Planes) where
         there j l other h = idle (λ t. t .0) (λ t. other (t .0)) (marked-there p (w .marks) kl 1 j h other)
 
     filter-does : (i k : ℕ) (planes : Planes) → Filtered (w .state) i k (w .table) (w .deblocked) (w .filtered) planes
-        → Clear (reasonsOf (Filter i k) w) → Does (Filter i k) w (record { answer = done; out = []; world = withFiltered w i k planes })
-    filter-does i k planes b free = record {
+        → MayFilter (w .state) i k (w .deblocked) (w .filtered) (w .marks) (w .table)
+        → Does (Filter i k) w (record { answer = done; out = []; world = withFiltered w i k planes })
+    filter-does i k planes b may = record {
       picture = refl;
-      holds = record { rules = v .rules; sets = v .sets; blocks = filter-kept (v .rules) (v .blocks) il kl is waited b };
+      holds = record {
+        rules = v .rules;
+        sets = v .sets;
+        blocks = filter-kept (v .rules) (v .blocks) il kl (parametersIn (w .table)) (own-in (v .sets) i k (may .ready .set)) (may .ready .delivered) b;
+      };
       marks = λ j l. here-or-there P i k j l (λ h. now-filtered ((refl, refl), tt) (marked-here p (w .marks) kl 2 (v .blocks .marks-fit) il)) (there j l);
       next = omega arith;
     }
@@ -128,16 +119,10 @@ module _ (own : Own) (first : Planes) where
         p = pictureOf w
 
         il : i < components p
-        il = such-block (w .state) i k (free .1 .1 .1 .0) .0
+        il = may .block .component
 
         kl : k < ctuCount p
-        kl = such-block (w .state) i k (free .1 .1 .1 .0) .1
-
-        is : componentOf (stored (w .table) k) i ≡ componentOf (own .sets k) i
-        is = ap (λ (q : CtuSet). componentOf q i) (own-in (v .sets) k (λ h. free .1 .1 .1 .1 .1 .1 .0 (inl h)))
-
-        waited : (j : ℕ) → Waits p (componentOf (stored (w .table) k) i) k j → 1 ≤ markOf p (w .marks) i j
-        waited j a = let z : ¬ (markOf p (w .marks) i j ≡ 0) = λ e. free .1 .1 .1 .1 .1 .1 .0 (inr (j, a, e)) in omega arith
+        kl = may .block .ctb
 
         P : ℕ → ℕ → Type 0
         P j l = l < ctuCount p → Moved (((i ≡ j) × (k ≡ l)) × Unit {0}) (⊥ × Unit {0}) (mark w j l) (mark (withFiltered w i k planes) j l)
@@ -147,10 +132,14 @@ module _ (own : Own) (first : Planes) where
 
     acts-do : (c : Call) → NoOpening c → Clear (reasonsOf c w) → Acts c w (λ r. OwnData own c w (r .answer) → Does c w r)
     acts-do Open other free = absurd other
-    acts-do (Read bytes count) other free = λ q means o. append-does q means (free .1 .1 .1 .0) (o q refl)
-    acts-do (Write q out) other free = λ n out′ wrote o. append-does q (wrote .shortest .mean) (free .1 .1 .1 .0) (o tt)
-    acts-do (Deliver i k samples) other free = λ planes b o. deliver-does i k samples planes b free o
-    acts-do (Filter i k) other free = λ planes b o. filter-does i k planes b free
+    acts-do (Read bytes count) other free = λ q means o.
+        let may = may-read (w .state) bytes count (w .table) free in
+        append-does q (here-valid (w .state) (w .table) (may .bins .copied) means) (may .due .unit) (o q refl)
+    acts-do (Write q out) other free = λ n out′ wrote o.
+        let may = may-write (w .state) q out (w .table) free in
+        append-does q (here-valid (w .state) (w .table) (copied-sound (w .state) (w .table) (may .set .left) (may .set .up)) (wrote .shortest .mean)) (may .due .unit) (o tt)
+    acts-do (Deliver i k samples) other free = λ planes b o. deliver-does i k samples planes b (may-deliver (w .state) i k samples (w .deblocked) (w .marks) free) o
+    acts-do (Filter i k) other free = λ planes b o. filter-does i k planes b (may-filter (w .state) i k (w .deblocked) (w .filtered) (w .marks) (w .table) free)
     acts-do (Rows i) other free = λ n b o. record { picture = refl; holds = v; marks = λ j k h. idle (λ t. t .0) (λ t. t .0) refl; next = omega arith }
 
 -- ---- all of the calls

@@ -17,7 +17,7 @@ mark w i k = markOf (pictureOf w) (w .marks) i k
 -- own is the picture's own data, and first the filtered planes at opening
 pub record Holds (own : Own) (first : Planes) (w : World) : Type 0 where
   pub rules : Rules (pictureOf w)
-  pub sets : SetsIn (pictureOf w) (own .sets) (w .state .next) (w .table)
+  pub sets : SetsIn (w .state) (own .parameters) (w .table)
   pub blocks : Blocks own first (pictureOf w) (w .deblocked) (w .filtered) (w .marks)
 
 -- ---- one mark

@@ -1,56 +1,56 @@
 -- The executable stage meets the contract.
 use mathlib.Core.Path.{_≡_, refl, ap, _∙_}
 use mathlib.Core.List.{List}
-use Prim.Native.Nat.{ℕ, _<_}
+use Prim.Native.Nat.{ℕ}
 use Rattle.standard.specs.declared.CtuSet.{CtuSet}
-use Rattle.standard.specs.Picture.{components}
 use Rattle.standard.specs.Sets.{switchesOf}
 use Rattle.standard.specs.Bins.{binsOf}
 use Rattle.standard.specs.Reasons.{leftSet, upperSet}
 use Rattle.standard.specs.Refusals.{First, Clear}
 use Rattle.standard.proofs.Decisions.{Verdict, refusal, clear}
 use Rattle.standard.proofs.Numbers.{first-unique, first-not-clear}
+use Rattle.standard.proofs.Granted.{may-read, may-write, may-deliver, may-filter}
 use Rattle.standard.proofs.Reader.{Heard, meant, early, remain, hear}
 use Rattle.standard.proofs.Spelling.{Spelling, shortest, unspelled, spellOut}
 use Rattle.promises.specs.World.{World, pictureOf, Call, Open, Read, Write, Deliver, Filter, Rows, Result, reasonsOf}
 use Rattle.promises.specs.Contract.{Effect, unchanged, Contract}
 use Rattle.promises.specs.Ours.{heardIn, spelledIn, act, verdictOf, conclude, ours}
-use Rattle.promises.proofs.Painting.{plane-not-short, component-there, painted-block}
+use Rattle.promises.proofs.Painting.{painted-block}
 use Rattle.promises.proofs.Finishing.{rows-finished}
 
 -- ---- where no reason holds it acts
 
 acts-reading : (bytes : List ℕ) (count : ℕ) (w : World) → Clear (reasonsOf (Read bytes count) w) → Effect (Read bytes count) w (act (Read bytes count) w)
 unfolding act
-acts-reading bytes count w k = go (hear (switchesOf (pictureOf w)) (leftSet (w .state) (w .table)) (upperSet (w .state) (w .table)) (binsOf bytes count))
+acts-reading bytes count w free = go (hear (switchesOf (w .state)) (leftSet (w .state) (w .table)) (upperSet (w .state) (w .table)) (binsOf bytes count))
   where
-    go : (h : Heard (switchesOf (pictureOf w)) (leftSet (w .state) (w .table)) (upperSet (w .state) (w .table)) (binsOf bytes count))
+    go : (h : Heard (switchesOf (w .state)) (leftSet (w .state) (w .table)) (upperSet (w .state) (w .table)) (binsOf bytes count))
         → Effect (Read bytes count) w (heardIn h (Read bytes count) w)
     go (meant q m) = (q, m, refl)
-    go (early e) = absurd (k .1 .1 .1 .1 .1 .0 e)
-    go (remain r) = absurd (k .1 .1 .1 .1 .1 .1 .0 r)
+    go (early e) = absurd (may-read (w .state) bytes count (w .table) free .bins .not-early e)
+    go (remain r) = absurd (may-read (w .state) bytes count (w .table) free .bins .none-remain r)
 
 acts-writing : (q : CtuSet) (out : List ℕ) (w : World) → Clear (reasonsOf (Write q out) w) → Effect (Write q out) w (act (Write q out) w)
 unfolding act
-acts-writing q out w k = go (spellOut (switchesOf (pictureOf w)) (leftSet (w .state) (w .table)) (upperSet (w .state) (w .table)) q)
+acts-writing q out w free = go (spellOut (switchesOf (w .state)) (leftSet (w .state) (w .table)) (upperSet (w .state) (w .table)) q)
   where
-    go : (h : Spelling (switchesOf (pictureOf w)) (leftSet (w .state) (w .table)) (upperSet (w .state) (w .table)) q)
+    go : (h : Spelling (switchesOf (w .state)) (leftSet (w .state) (w .table)) (upperSet (w .state) (w .table)) q)
         → Effect (Write q out) w (spelledIn h out (Write q out) w)
     go (shortest bins s) = (_, _, record { bins = bins; shortest = s; number = refl; bytes = refl }, refl)
-    go (unspelled f) = absurd (k .1 .1 .1 .1 .1 .0 f)
+    go (unspelled f) = absurd (may-write (w .state) q out (w .table) free .set .meant f)
 
 acts : (c : Call) (w : World) → Clear (reasonsOf c w) → Effect c w (act c w)
 unfolding act
-acts Open w k = refl
-acts (Read bytes count) w k = acts-reading bytes count w k
-acts (Write q out) w k = acts-writing q out w k
-acts (Deliver i j samples) w k =
-    let h : i < components (pictureOf w) = component-there (pictureOf w) i (k .1 .1 .1 .0) in
-    (_, painted-block (pictureOf w) i j _ (w .deblocked) h (plane-not-short (λ t. t .0) (k .1 .0) i h), refl)
-acts (Filter i j) w k =
-    let h : i < components (pictureOf w) = component-there (pictureOf w) i (k .1 .1 .1 .0) in
-    (_, painted-block (pictureOf w) i j _ (w .filtered) h (plane-not-short (λ t. t .1) (k .1 .0) i h), refl)
-acts (Rows i) w k = (_, rows-finished (w .state) i (w .marks), refl)
+acts Open w free = refl
+acts (Read bytes count) w free = acts-reading bytes count w free
+acts (Write q out) w free = acts-writing q out w free
+acts (Deliver i k samples) w free =
+    let may = may-deliver (w .state) i k samples (w .deblocked) (w .marks) free in
+    (_, painted-block (pictureOf w) i k _ (w .deblocked) (may .block .component) (may .deblocked-fits), refl)
+acts (Filter i k) w free =
+    let may = may-filter (w .state) i k (w .deblocked) (w .filtered) (w .marks) (w .table) free in
+    (_, painted-block (pictureOf w) i k _ (w .filtered) (may .block .component) (may .filtered-fits), refl)
+acts (Rows i) w free = (_, rows-finished (w .state) i (w .marks), refl)
 
 -- ---- a result meets the contract by what became of its call
 

@@ -1,12 +1,9 @@
--- One CTB of one plane written: the lengths that no refusal leaves open, that painting writes it, and that nothing else does.
+-- One CTB of one plane written: that painting writes it, and that nothing else does.
 use mathlib.Core.Path.{_≡_, refl, sym, _∙_, subst}
-use mathlib.Core.Bool.{Bool, true, false, cond}
 use mathlib.Core.List.{List}
-use mathlib.Core.Logic.{_⊎_, inl}
-use Prim.Native.Nat.{ℕ, zero, suc, _*_, _≤_, _<_}
+use Prim.Native.Nat.{ℕ, zero, suc, _*_, _<_}
 use native.Mathlib.Decide.{ℕ-discrete}
 use native.Mathlib.Omega.{arith}
-use lib.Dec.{eqb}
 use lib.ListN.{length}
 use Rattle.standard.specs.declared.Picture.{Picture}
 use Rattle.standard.specs.Picture.{components, planeWidth, planeHeight, rectangle}
@@ -26,20 +23,6 @@ choose-yes (no n) x y h = absurd (n h)
 pub choose-no : {A B : Type 0} (d : Dec A) (x y : B) → ¬ A → choose d x y ≡ y
 choose-no (yes a) x y n = absurd (n a)
 choose-no (no m) x y n = refl
-
--- ---- the length of a plane
-
--- it is right where it is no reason to refuse
-pub plane-not-short : {A : Type 0} {p : Picture} {planes : Planes} → (A → PlanesFit p planes) → ¬ (¬ A) → (i : ℕ) → i < components p
-    → length (planeOf planes i) ≡ planeWidth p i * planeHeight p i
-plane-not-short {p = p} {planes = planes} fit n i h = go (ℕ-discrete (length (planeOf planes i)) (planeWidth p i * planeHeight p i))
-  where
-    go : Dec (length (planeOf planes i) ≡ planeWidth p i * planeHeight p i) → length (planeOf planes i) ≡ planeWidth p i * planeHeight p i
-    go (yes e) = e
-    go (no m) = absurd (n (λ a. m (plane-long i (fit a) h)))
-
-pub component-there : (p : Picture) (i : ℕ) {B : Type 0} → ¬ ((components p ≤ i) ⊎ B) → i < components p
-component-there p i n = let m : ¬ (components p ≤ i) = λ h. n (inl h) in omega arith
 
 -- ---- one plane of three
 
@@ -69,13 +52,12 @@ module _ (p : Picture) (i k : ℕ) (f : ℕ → ℕ → ℕ) where
     outside = λ x y a b n. at-planeBy (planeWidth p i) (planeHeight p i) _ a b ∙ choose-no (inside? (rectangle p i k) x y) (f x y) (at plane (planeWidth p i) x y) n;
   }
 
-  pub painted-block : (planes : Planes) → i < components p → length (planeOf planes i) ≡ planeWidth p i * planeHeight p i
-      → BlockWritten p i k f planes (paintedIn p i k f planes)
+  pub painted-block : (planes : Planes) → i < components p → PlanesFit p planes → BlockWritten p i k f planes (paintedIn p i k f planes)
   unfolding paintedIn
-  painted-block planes h long = record {
+  painted-block planes h fits = record {
     own = subst (Written (planeWidth p i) (planeHeight p i) (rectangle p i k) f (planeOf planes i))
         (sym (own-plane planes i (painted p i k f (planeOf planes i)) (omega (arith, components-most p))))
-        (painted-written (planeOf planes i) long);
+        (painted-written (planeOf planes i) (plane-long i fits h));
     others = λ j n. other-plane planes i (painted p i k f (planeOf planes i)) j n;
   }
 
@@ -85,9 +67,9 @@ same-planes : {a b : Planes} → ((j : ℕ) → planeOf a j ≡ planeOf b j) →
 same-planes e n = record { y = e 0 n; cb = e 1 n; cr = e 2 n }
 
 pub block-unique : {p : Picture} {i k : ℕ} {f : ℕ → ℕ → ℕ} {before a b : Planes} → BlockWritten p i k f before a → BlockWritten p i k f before b
-    → length (planeOf before i) ≡ planeWidth p i * planeHeight p i → a ≡ b
-block-unique {p} {i} {k} {f} {before} {a} {b} s t long = same-planes (λ j. go j (ℕ-discrete j i))
+    → i < components p → PlanesFit p before → a ≡ b
+block-unique {p} {i} {k} {f} {before} {a} {b} s t h fits = same-planes (λ j. go j (ℕ-discrete j i))
   where
     go : (j : ℕ) → Dec (j ≡ i) → planeOf a j ≡ planeOf b j
-    go j (yes e) = subst (λ (n : ℕ). planeOf a n ≡ planeOf b n) (sym e) (written-unique (s .own) (t .own) long)
+    go j (yes e) = subst (λ (n : ℕ). planeOf a n ≡ planeOf b n) (sym e) (written-unique (s .own) (t .own) (plane-long i fits h))
     go j (no n) = s .others j n ∙ sym (t .others j n)

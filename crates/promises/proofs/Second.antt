@@ -2,78 +2,43 @@
 use mathlib.Core.Path.{_≡_, sym, ap, _∙_, subst}
 use mathlib.Core.Bool.{Bool}
 use mathlib.Core.List.{List, []}
-use mathlib.Core.Logic.{inl, inr}
-use Prim.Native.Nat.{ℕ, _*_, _≤_, _<_}
-use native.Mathlib.Omega.{arith}
+use Prim.Native.Nat.{ℕ, _*_, _≤_}
 use lib.ListN.{length}
-use Rattle.standard.specs.declared.State.{State}
 use Rattle.standard.specs.declared.CtuSet.{CtuSet}
-use Rattle.standard.specs.Picture.{ctuCount, leftOf, aboveOf}
 use Rattle.standard.specs.Sets.{switchesOf, Valid}
 use Rattle.standard.specs.Bins.{binsOf, packed}
-use Rattle.standard.specs.Table.{Sound}
-use Rattle.standard.specs.Refusals.{First, Clear}
-use Rattle.standard.specs.Reasons.{planeOf, due, MeansHere, ShortestHere, Copies, SetOutsideTheRules, NeighbourOutsideTheRules}
-use Rattle.standard.specs.Reasons as reasons
+use Rattle.standard.specs.Refusals.{Clear}
+use Rattle.standard.specs.Reasons.{planeOf, MeansHere, ShortestHere}
 use Rattle.standard.specs.Calls.{Filtered, FinishedRows, leading}
 use Rattle.standard.proofs.Decisions.{differ}
+use Rattle.standard.proofs.Granted.{DueCall, may-read, read-clear, write-clear}
+use Rattle.standard.proofs.Numbers.{first-not-clear}
 use Rattle.standard.proofs.Packed.{packed-back}
 use Rattle.standard.proofs.Reader.{one-meaning, meant-not-early, meant-not-remain}
-use Rattle.standard.proofs.Refusing.{sound?}
-use Rattle.promises.specs.World.{World, pictureOf, Call, Read, Write, Filter, Rows, refused, set-read, bins-written, rows, Accepted, Result, Stage, reasonsOf}
+use Rattle.promises.specs.World.{World, Call, Read, Write, Filter, Rows, refused, set-read, bins-written, rows, Accepted, Result, Stage, reasonsOf}
 use Rattle.promises.specs.Contract.{appended, Contract}
 use Rattle.promises.specs.Demands.{Due, Demand2}
-use Rattle.promises.proofs.Stored.{means-valid, neighbour-valid}
+use Rattle.promises.proofs.Stored.{here-valid, copied-sound}
 use Rattle.promises.proofs.First.{Became, away, through, became, answers}
 
--- ---- a set that is read is within the rules
-
-module _ (s : State) (table : List ℕ) where
-  sound-unless : {j : ℕ} → ¬ SetOutsideTheRules s table j → Sound (switchesOf (s .picture)) table j
-  sound-unless {j} n = go (sound? (switchesOf (s .picture)) table j)
-    where
-      go : Dec (Sound (switchesOf (s .picture)) table j) → Sound (switchesOf (s .picture)) table j
-      go (yes h) = h
-      go (no m) = absurd (n m)
-
-  -- a merge copies an entry within the rules
-  read-valid : {q : CtuSet} {bins : List Bool} → ¬ ((j : ℕ) × Copies s table bins j × SetOutsideTheRules s table j) → MeansHere s table q bins
-      → Valid (switchesOf (s .picture)) q
-  read-valid n m =
-      means-valid (λ e f. neighbour-valid (leftOf (s .picture) (due s)) (λ j h. sound-unless (λ k. n (j, reasons.left h f, k))) e)
-      (λ e f. neighbour-valid (aboveOf (s .picture) (due s)) (λ j h. sound-unless (λ k. n (j, reasons.up h f, k))) e)
-      m
-
-  -- and no merge reaches another where the neighbours are
-  none-copied : {bins : List Bool} → ¬ NeighbourOutsideTheRules s table (leftOf (s .picture) (due s)) → ¬ NeighbourOutsideTheRules s table (aboveOf (s .picture) (due s))
-      → (j : ℕ) → Copies s table bins j → ¬ SetOutsideTheRules s table j
-  none-copied l u j (reasons.left e f) h = l (subst (NeighbourOutsideTheRules s table) (sym e) h)
-  none-copied l u j (reasons.up e f) h = u (subst (NeighbourOutsideTheRules s table) (sym e) h)
+-- what comes first in a read and a write
+due-call : {w : World} → Due w → DueCall (w .state) (w .table)
+due-call due = record { rules = due .rules; table-fits = due .lengths .table; unit = due .unit }
 
 -- ---- reading
 
 reads-clear : (bytes : List ℕ) (count : ℕ) (w : World) {q : CtuSet} → Due w → count ≤ 8 * length bytes → MeansHere (w .state) (w .table) q (binsOf bytes count)
     → Clear (reasonsOf (Read bytes count) w)
 reads-clear bytes count w due room m =
-    let unit : w .state .next < ctuCount (pictureOf w) = due .unit in (
-      λ k. k (due .rules),
-      (
-        λ k. k (due .lengths .table),
-        (
-          λ k. omega arith,
-          (
-            λ k. omega arith,
-            (
-              λ k. omega arith,
-              (
-                meant-not-early m,
-                (meant-not-remain m, (λ k. none-copied (w .state) (w .table) (due .left) (due .above) (k .0) (k .1) (k .2), tt)),
-              ),
-            ),
-          ),
-        ),
-      ),
-    )
+    read-clear (w .state) bytes count (w .table) (record {
+      due = due-call due;
+      held = room;
+      bins = record {
+        not-early = meant-not-early m;
+        none-remain = meant-not-remain m;
+        copied = copied-sound (w .state) (w .table) (due .left) (due .above);
+      };
+    })
 
 module _ {stage : Stage} (meets : (c : Call) (w : World) → Contract c w (stage c w)) where
   reads : (bytes : List ℕ) (count : ℕ) (w : World) (q : CtuSet) → Due w → count ≤ 8 * length bytes → MeansHere (w .state) (w .table) q (binsOf bytes count)
@@ -83,15 +48,15 @@ module _ {stage : Stage} (meets : (c : Call) (w : World) → Contract c w (stage
       e .2 ∙ ap (λ (a : CtuSet). record { answer = set-read a; out = []; world = appended w a }) (one-meaning (e .1) m)
 
   reads-only : (bytes : List ℕ) (count : ℕ) (w : World) (q : CtuSet) → stage (Read bytes count) w .answer ≡ set-read q
-      → MeansHere (w .state) (w .table) q (binsOf bytes count) × Valid (switchesOf (pictureOf w)) q
+      → MeansHere (w .state) (w .table) q (binsOf bytes count) × Valid (switchesOf (w .state)) q
   reads-only bytes count w q e = go (became (meets (Read bytes count) w))
     where
-      go : Became (Read bytes count) w (stage (Read bytes count) w) → MeansHere (w .state) (w .table) q (binsOf bytes count) × Valid (switchesOf (pictureOf w)) q
+      go : Became (Read bytes count) w (stage (Read bytes count) w) → MeansHere (w .state) (w .table) q (binsOf bytes count) × Valid (switchesOf (w .state)) q
       go (away n f g) = let z : refused n ≡ set-read q = sym (answers g) ∙ e in differ (cc)
       go (through k (a, m, g)) =
           let z : set-read a ≡ set-read q = sym (answers g) ∙ e in
           let means : MeansHere (w .state) (w .table) q (binsOf bytes count) = subst (λ (b : CtuSet). MeansHere (w .state) (w .table) b (binsOf bytes count)) (cc) m in
-          (means, read-valid (w .state) (w .table) (k .1 .1 .1 .1 .1 .1 .1 .0) means)
+          (means, here-valid (w .state) (w .table) (may-read (w .state) bytes count (w .table) k .bins .copied) means)
 
   -- ---- writing
 
@@ -120,22 +85,15 @@ module _ {stage : Stage} (meets : (c : Call) (w : World) → Contract c w (stage
       → (n : ℕ) → stage (Write q out) w .answer ≡ refused n → (bins : List Bool) → ¬ MeansHere (w .state) (w .table) q bins
   refuses-only q out w due room n e bins m = go (became (meets (Write q out) w))
     where
-      unit : w .state .next < ctuCount (pictureOf w)
-      unit = due .unit
-
-      none-first : {k : ℕ} → ¬ First (reasonsOf (Write q out) w) k
-      none-first (inl a) = a .0 (due .rules)
-      none-first (inr (_, inl a)) = a .0 (due .lengths .table)
-      none-first (inr (_, inr (_, inl a))) = omega (arith, a .0)
-      none-first (inr (_, inr (_, inr (_, inl a)))) = omega (arith, a .0)
-      none-first (inr (_, inr (_, inr (_, inr (_, inl (inl a, h)))))) = due .left a
-      none-first (inr (_, inr (_, inr (_, inr (_, inl (inr a, h)))))) = due .above a
-      none-first (inr (_, inr (_, inr (_, inr (_, inr (_, inl a)))))) = a .0 bins m
-      none-first (inr (_, inr (_, inr (_, inr (_, inr (_, inr (_, inl a))))))) = omega (arith, a .0 .2, room (a .0 .0) (a .0 .1))
-      none-first (inr (_, inr (_, inr (_, inr (_, inr (_, inr (_, inr (_, a)))))))) = a
+      free : Clear (reasonsOf (Write q out) w)
+      free =
+          write-clear (w .state) q out (w .table) (record {
+            due = due-call due;
+            set = record { left = due .left; up = due .above; meant = λ none. none bins m; room = room };
+          })
 
       go : ¬ Became (Write q out) w (stage (Write q out) w)
-      go (away k f g) = none-first f
+      go (away k f g) = first-not-clear (reasonsOf (Write q out) w) k f free
       go (through k (l, out′, t, g)) = let z : bins-written l ≡ refused n = sym (answers g) ∙ e in differ (cc)
 
   -- ---- filtering, and finished rows

@@ -6,11 +6,12 @@ use Prim.Native.Nat.{ℕ, zero, suc, _≤_, _<_}
 use native.Mathlib.Omega.{arith}
 use lib.ListN.{getD, replicate, length-replicate}
 use Rattle.standard.specs.declared.Picture.{Picture}
+use Rattle.standard.specs.declared.State.{State}
 use Rattle.standard.specs.Picture.{Rules, components, planeWidth, ctuCount, Inside, rectangle, ctbAt}
 use Rattle.standard.specs.Samples.{at, filteredPlane}
 use Rattle.standard.specs.Reasons.{planeOf, markPlace, markCount, markOf, filterReasons}
 use Rattle.standard.specs.Refusals.{Clear}
-use Rattle.standard.proofs.Judging.{rules?}
+use Rattle.standard.proofs.Called.{lent-rules}
 use Rattle.standard.proofs.Rasters.{is-filtered}
 use Rattle.standard.proofs.Grid.{inside-count, ctb-inside, ctb-lt}
 use Rattle.promises.specs.World.{World, pictureOf, Call, Open, Filter, Accepted, Result, Stage, reasonsOf}
@@ -22,7 +23,7 @@ use Rattle.promises.proofs.Stored.{SetsIn, none-in}
 use Rattle.promises.proofs.Blocks.{Blocks}
 use Rattle.promises.proofs.Invariant.{mark, Holds, Moves}
 use Rattle.promises.proofs.History.{runs}
-use Rattle.promises.proofs.Ready.{filter-clear}
+use Rattle.promises.proofs.Ready.{ready-clear}
 
 -- ---- the opening
 
@@ -30,9 +31,6 @@ all-zero : (n k : ℕ) → getD {A = ℕ} (replicate n 0) k 0 ≡ 0
 all-zero zero k = refl
 all-zero (suc n) zero = refl
 all-zero (suc n) (suc k) = all-zero n k
-
-rules-hold : (p : Picture) → ¬ ¬ Rules p → Rules p
-rules-hold p h = elim (rules? p) [ yes r ↦ r | no n ↦ absurd (h n) ]
 
 record Start (own : Own) (w w0 : World) : Type 0 where
   picture : pictureOf w0 ≡ pictureOf w
@@ -45,7 +43,7 @@ started own w lengths rules = record {
   picture = refl;
   holds = record {
     rules = rules;
-    sets = none-in (lengths .table);
+    sets = none-in refl (lengths .table);
     blocks = record {
       deblocked-fits = lengths .deblocked;
       filtered-fits = lengths .filtered;
@@ -69,16 +67,20 @@ started own w lengths rules = record {
 opening : (own : Own) (w : World) {r : Result} → Contract Open w r → Lengths w → Accepted (r .answer) → Start own w (r .world)
 opening own w k lengths =
     turn Open w k (λ r. Accepted (r .answer) → Start own w (r .world)) (λ n a. absurd a)
-    (λ free a. started own w lengths (rules-hold (pictureOf w) (free .0)))
+    (λ free a. started own w lengths (lent-rules (w .state) free))
 
 -- ---- the opening and the calls
+
+-- a state, of another picture
+abbrev of-picture : Picture → State → State
+of-picture p s = record { picture = p; next = s .next }
 
 -- w and the world after the calls, in terms of the picture at the start
 record Lived (own : Own) (w w1 : World) (F D : ℕ → ℕ → Type 0) (n : ℕ) : Type 0 where
   picture : pictureOf w1 ≡ pictureOf w
   next : w1 .state .next ≡ n
   rules : Rules (pictureOf w)
-  sets : SetsIn (pictureOf w) (own .sets) (w1 .state .next) (w1 .table)
+  sets : SetsIn (of-picture (pictureOf w) (w1 .state)) (own .parameters) (w1 .table)
   blocks : Blocks own (w .filtered) (pictureOf w) (w1 .deblocked) (w1 .filtered) (w1 .marks)
   filtered : (i k : ℕ) → k < ctuCount (pictureOf w) → F i k → markOf (pictureOf w) (w1 .marks) i k ≡ 2
   delivered : (i k : ℕ) → k < ctuCount (pictureOf w) → D i k → 1 ≤ markOf (pictureOf w) (w1 .marks) i k
@@ -89,7 +91,7 @@ lived {own} {w} {w0} {w1} {F} {D} start m = record {
   picture = e;
   next = omega (arith, m .next, start .none);
   rules = subst Rules e (m .holds .rules);
-  sets = subst (λ (p : Picture). SetsIn p (own .sets) (w1 .state .next) (w1 .table)) e (m .holds .sets);
+  sets = subst (λ (p : Picture). SetsIn (of-picture p (w1 .state)) (own .parameters) (w1 .table)) e (m .holds .sets);
   blocks = subst (λ (p : Picture). Blocks own (w .filtered) p (w1 .deblocked) (w1 .filtered) (w1 .marks)) e (m .holds .blocks);
   filtered = λ i k h f. subst (λ (p : Picture). markOf p (w1 .marks) i k ≡ 2) e (m .marks i k (there k h) .filtered f);
   delivered = λ i k h d. subst (λ (p : Picture). 1 ≤ markOf p (w1 .marks) i k) e (m .marks i k (there k h) .delivered d);
@@ -121,9 +123,9 @@ module _ (stage : Stage) (meets : (c : Call) (w : World) → Contract c w (stage
   as-before i k x y il h never = told .blocks .places i k x y il h .before (λ e. never (told .because i k (inside-count (told .rules) i k h) e))
 
   in-the-end : (i : ℕ) → i < components (pictureOf w) → ((k : ℕ) → k < ctuCount (pictureOf w) → Done stage w cs (Filters i k))
-      → planeOf (after stage w cs .filtered) i ≡ filteredPlane (pictureOf w) i (own .sets) (own .planes i)
+      → planeOf (after stage w cs .filtered) i ≡ filteredPlane (pictureOf w) (own .parameters) i (own .planes i)
   in-the-end i il all =
-      is-filtered (pictureOf w) i (own .sets) (own .planes i) (plane-long i (told .blocks .filtered-fits) il)
+      is-filtered (pictureOf w) (own .parameters) i (own .planes i) (plane-long i (told .blocks .filtered-fits) il)
       (λ x y xw yh. its-final i (ctbAt (pictureOf w) i x y) x y il (ctb-inside (told .rules) i xw yh refl) (all _ (ctb-lt (told .rules) i xw yh)))
 
   at-first-ask : setsIn stage cs (stage Open w .world) ≡ ctuCount (pictureOf w)
@@ -136,16 +138,12 @@ module _ (stage : Stage) (meets : (c : Call) (w : World) → Contract c w (stage
       w1 : World
       w1 = after stage w cs
 
-      n : w1 .state .next ≡ ctuCount (pictureOf w)
-      n = told .next ∙ full
-
       free : Clear (reasonsOf (Filter i k) w1)
       free =
-          subst (λ (p : Picture). Clear (filterReasons (record { picture = p; next = w1 .state .next }) i k (w1 .deblocked) (w1 .filtered) (w1 .marks) (w1 .table)))
+          subst (λ (p : Picture). Clear (filterReasons (of-picture p (w1 .state)) i k (w1 .deblocked) (w1 .filtered) (w1 .marks) (w1 .table)))
           (sym (told .picture))
-          (subst (λ (m : ℕ). Clear (filterReasons (record { picture = pictureOf w; next = m }) i k (w1 .deblocked) (w1 .filtered) (w1 .marks) (w1 .table))) (sym n)
-          (filter-clear (told .rules) (subst (λ (m : ℕ). SetsIn (pictureOf w) (own .sets) m (w1 .table)) n (told .sets)) (told .blocks) il kl
-          (λ j jl. told .delivered i j jl (all i j il jl)) (λ e. never (told .because i k kl e))))
+          (ready-clear (told .rules) (told .sets) (told .blocks) (told .next ∙ full) il kl (λ j jl. told .delivered i j jl (all i j il jl))
+          (λ e. never (told .because i k kl e)))
 
 pub third : (stage : Stage) → ((c : Call) (w : World) → Contract c w (stage c w)) → Demand3 stage
 third stage meets = record { filtered = its-final stage meets; others = as-before stage meets; whole = in-the-end stage meets; ready = at-first-ask stage meets }

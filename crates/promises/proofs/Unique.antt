@@ -2,23 +2,23 @@
 use mathlib.Core.Path.{_≡_, sym, ap, ap₂, _∙_}
 use mathlib.Core.Bool.{Bool}
 use mathlib.Core.List.{List, []}
-use Prim.Native.Nat.{ℕ, _<_}
+use Prim.Native.Nat.{ℕ}
 use lib.ListN.{length}
 use Rattle.standard.specs.declared.State.{State}
 use Rattle.standard.specs.declared.CtuSet.{CtuSet}
-use Rattle.standard.specs.Picture.{components}
 use Rattle.standard.specs.Bins.{packed}
 use Rattle.standard.specs.Refusals.{Clear}
 use Rattle.standard.specs.Reasons.{Planes, planeOf}
 use Rattle.standard.specs.Calls.{leading}
 use Rattle.standard.specs.Contracts.{Wrote}
 use Rattle.standard.proofs.Decisions.{Verdict, refusal, clear}
+use Rattle.standard.proofs.Granted.{may-deliver, may-filter}
 use Rattle.standard.proofs.Reader.{one-meaning}
 use Rattle.standard.proofs.ShortestOne.{shortest-unique}
-use Rattle.promises.specs.World.{World, pictureOf, Call, Open, Read, Write, Deliver, Filter, Rows, done, set-read, bins-written, rows, Result, Stage, reasonsOf}
+use Rattle.promises.specs.World.{World, Call, Open, Read, Write, Deliver, Filter, Rows, done, set-read, bins-written, rows, Result, Stage, reasonsOf}
 use Rattle.promises.specs.Contract.{appended, withDelivered, withFiltered, Effect, Contract}
 use Rattle.promises.specs.Ours.{verdictOf, ours}
-use Rattle.promises.proofs.Painting.{plane-not-short, component-there, block-unique}
+use Rattle.promises.proofs.Painting.{block-unique}
 use Rattle.promises.proofs.Finishing.{rows-unique}
 use Rattle.promises.proofs.Meets.{meets}
 
@@ -30,21 +30,21 @@ wrote-unique {out = out} f g =
 -- ---- one effect
 
 effect-unique : (c : Call) (w : World) → Clear (reasonsOf c w) → {r t : Result} → Effect c w r → Effect c w t → r ≡ t
-effect-unique Open w k e f = e ∙ sym f
-effect-unique (Read bytes count) w k (a, m, e) (b, n, f) =
+effect-unique Open w free e f = e ∙ sym f
+effect-unique (Read bytes count) w free (a, m, e) (b, n, f) =
     e ∙ ap (λ (q : CtuSet). record { answer = set-read q; out = []; world = appended w q }) (one-meaning m n) ∙ sym f
-effect-unique (Write q out) w k (m, a, g, e) (n, b, h, f) =
+effect-unique (Write q out) w free (m, a, g, e) (n, b, h, f) =
     let u = wrote-unique g h in
     e ∙ ap₂ (λ (n : ℕ) (b : List ℕ). record { answer = bins-written n; out = b; world = appended w q }) (u .0) (u .1) ∙ sym f
-effect-unique (Deliver i j samples) w k (a, m, e) (b, n, f) =
-    let h : i < components (pictureOf w) = component-there (pictureOf w) i (k .1 .1 .1 .0) in
-    e ∙ ap (λ (p : Planes). record { answer = done; out = []; world = withDelivered w i j p })
-    (block-unique m n (plane-not-short (λ t. t .0) (k .1 .0) i h)) ∙ sym f
-effect-unique (Filter i j) w k (a, m, e) (b, n, f) =
-    let h : i < components (pictureOf w) = component-there (pictureOf w) i (k .1 .1 .1 .0) in
-    e ∙ ap (λ (p : Planes). record { answer = done; out = []; world = withFiltered w i j p })
-    (block-unique m n (plane-not-short (λ t. t .1) (k .1 .0) i h)) ∙ sym f
-effect-unique (Rows i) w k (a, m, e) (b, n, f) =
+effect-unique (Deliver i k samples) w free (a, m, e) (b, n, f) =
+    let may = may-deliver (w .state) i k samples (w .deblocked) (w .marks) free in
+    e ∙ ap (λ (p : Planes). record { answer = done; out = []; world = withDelivered w i k p })
+    (block-unique m n (may .block .component) (may .deblocked-fits)) ∙ sym f
+effect-unique (Filter i k) w free (a, m, e) (b, n, f) =
+    let may = may-filter (w .state) i k (w .deblocked) (w .filtered) (w .marks) (w .table) free in
+    e ∙ ap (λ (p : Planes). record { answer = done; out = []; world = withFiltered w i k p })
+    (block-unique m n (may .block .component) (may .filtered-fits)) ∙ sym f
+effect-unique (Rows i) w free (a, m, e) (b, n, f) =
     e ∙ ap (λ (n : ℕ). record { answer = rows n (leading (w .state) i n (planeOf (w .filtered) i)); out = []; world = w }) (rows-unique m n) ∙ sym f
 
 -- ---- one result

@@ -6,14 +6,14 @@ use mathlib.Core.Logic.{_⊎_, inl, inr}
 use Prim.Native.Nat.{ℕ, _+_, _*_, _≤_, _<_}
 use lib.ListN.{length}
 use Rattle.standard.specs.declared.Picture.{Picture}
+use Rattle.standard.specs.declared.State.{State}
 use Rattle.standard.specs.declared.CtuSet.{CtuSet}
-use Rattle.standard.specs.Picture.{Rules, components, planeWidth, planeHeight, ctuCount, Inside, rectangle, address, leftOf, aboveOf}
-use Rattle.standard.specs.Sets.{switchesOf, Valid, componentOf}
+use Rattle.standard.specs.Picture.{Rules, components, planeWidth, ctuCount, Inside, rectangle, due, mergeLeft, mergeUp}
+use Rattle.standard.specs.Sets.{switchesOf, Valid}
 use Rattle.standard.specs.Bins.{binsOf, packed}
-use Rattle.standard.specs.Samples.{layoutOf, at, sample, filteredPlane}
-use Rattle.standard.specs.Table.{stored}
+use Rattle.standard.specs.Samples.{Parameters, at, filteredSample, filteredPlane}
 use Rattle.standard.specs.Refusals.{First}
-use Rattle.standard.specs.Reasons.{Planes, planeOf, PlanesFit, MarksFit, TableFits, due, MeansHere, ShortestHere, NeighbourOutsideTheRules}
+use Rattle.standard.specs.Reasons.{Planes, planeOf, PlanesFit, MarksFit, TableFits, UnitIsDue, MeansHere, ShortestHere, NeighbourOutsideTheRules}
 use Rattle.standard.specs.Calls.{delivered, Filtered, FinishedRows, leading}
 use Rattle.promises.specs.World.{World, pictureOf, Call, Open, Read, Write, Deliver, Filter, Rows, Answer, refused, done, set-read, bins-written, rows, Accepted, Result, Stage, reasonsOf}
 use Rattle.promises.specs.Contract.{appended, unchanged}
@@ -37,9 +37,9 @@ pub record Lengths (w : World) : Type 0 where
 pub record Due (w : World) : Type 0 where
   pub rules : Rules (pictureOf w)
   pub lengths : Lengths w
-  pub unit : w .state .next < ctuCount (pictureOf w)
-  pub left : ¬ NeighbourOutsideTheRules (w .state) (w .table) (leftOf (pictureOf w) (due (w .state)))
-  pub above : ¬ NeighbourOutsideTheRules (w .state) (w .table) (aboveOf (pictureOf w) (due (w .state)))
+  pub unit : UnitIsDue (w .state)
+  pub left : ¬ NeighbourOutsideTheRules (w .state) (w .table) (mergeLeft (w .state))
+  pub above : ¬ NeighbourOutsideTheRules (w .state) (w .table) (mergeUp (w .state))
 
 -- DEMAND 2
 pub record Demand2 (stage : Stage) : Type 0 where
@@ -48,7 +48,7 @@ pub record Demand2 (stage : Stage) : Type 0 where
       → stage (Read bytes count) w ≡ record { answer = set-read q; out = []; world = appended w q }
   -- and nothing else is
   pub reads-only : (bytes : List ℕ) (count : ℕ) (w : World) (q : CtuSet) → stage (Read bytes count) w .answer ≡ set-read q
-      → MeansHere (w .state) (w .table) q (binsOf bytes count) × Valid (switchesOf (pictureOf w)) q
+      → MeansHere (w .state) (w .table) q (binsOf bytes count) × Valid (switchesOf (w .state)) q
   -- "writing gives the shortest bins that read back as the same parameters"
   pub writes : (q : CtuSet) (out : List ℕ) (w : World) (n : ℕ) → stage (Write q out) w .answer ≡ bins-written n
       → (bins : List Bool) × ShortestHere (w .state) (w .table) q bins × (n ≡ length bins) × (stage (Write q out) w .out ≡ packed bins out)
@@ -69,18 +69,22 @@ pub record Demand2 (stage : Stage) : Type 0 where
 
 -- the picture's own data: the set of each CTU, and of each component the whole deblocked plane
 pub record Own : Type 0 where
-  pub sets : ℕ → CtuSet
+  pub parameters : Parameters
   pub planes : ℕ → List ℕ
 
 -- the samples, row after row, are CTB k of the plane
 abbrev pub IsBlock : Picture → ℕ → ℕ → List ℕ → List ℕ → Type 0
 IsBlock p i k plane samples = (x y : ℕ) → Inside (rectangle p i k) x y → delivered (rectangle p i k) samples x y ≡ at plane (planeWidth p i) x y
 
+-- the set is the picture's own of the CTU that is due
+abbrev pub OwnSet : Parameters → State → CtuSet → Type 0
+OwnSet own s q = q ≡ own .sets (due s)
+
 -- what the call, answered so in the world w, accepted is the picture's own
 abbrev pub OwnData : Own → Call → World → Answer → Type 0
 OwnData own Open w a = Unit {0}
-OwnData own (Read bytes count) w a = (q : CtuSet) → a ≡ set-read q → q ≡ own .sets (due (w .state))
-OwnData own (Write q out) w a = Accepted a → q ≡ own .sets (due (w .state))
+OwnData own (Read bytes count) w a = (q : CtuSet) → a ≡ set-read q → OwnSet (own .parameters) (w .state) q
+OwnData own (Write q out) w a = Accepted a → OwnSet (own .parameters) (w .state) q
 OwnData own (Deliver i k samples) w a = Accepted a → IsBlock (pictureOf w) i k (own .planes i) samples
 OwnData own (Filter i k) w a = Unit {0}
 OwnData own (Rows i) w a = Unit {0}
@@ -160,7 +164,7 @@ Done stage w cs Q = Happened stage Q cs (stage Open w .world)
 
 -- the sample that the standard makes of the whole deblocked picture
 abbrev pub final : Own → Picture → ℕ → ℕ → ℕ → ℕ → ℕ
-final own p i k x y = sample (layoutOf p i) (componentOf (own .sets k) i) (own .planes i) x y
+final own p i k x y = filteredSample p (own .parameters) i k (own .planes i) x y
 
 -- DEMAND 3. "for every order of calls, refused ones among them,"
 pub record Demand3 (stage : Stage) : Type 0 where
@@ -175,7 +179,7 @@ pub record Demand3 (stage : Stage) : Type 0 where
   -- "and once all blocks are filtered the output is what the standard makes of the whole deblocked picture."
   pub whole : (own : Own) (w : World) (cs : List Call) → Life stage own w cs
       → (i : ℕ) → i < components (pictureOf w) → ((k : ℕ) → k < ctuCount (pictureOf w) → Done stage w cs (Filters i k))
-      → planeOf (after stage w cs .filtered) i ≡ filteredPlane (pictureOf w) i (own .sets) (own .planes i)
+      → planeOf (after stage w cs .filtered) i ≡ filteredPlane (pictureOf w) (own .parameters) i (own .planes i)
   -- "Once all sets and blocks are in, any block still unfiltered is filtered at the first ask."
   pub ready : (own : Own) (w : World) (cs : List Call) → Life stage own w cs → setsIn stage cs (stage Open w .world) ≡ ctuCount (pictureOf w)
       → ((i k : ℕ) → i < components (pictureOf w) → k < ctuCount (pictureOf w) → Done stage w cs (Delivers i k))

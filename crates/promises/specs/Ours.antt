@@ -11,10 +11,11 @@ use Rattle.standard.specs.declared.State.{State}
 use Rattle.standard.specs.declared.CtuSet.{CtuSet}
 use Rattle.standard.specs.Picture.{planeWidth, planeHeight, ctbHeight, columns, rectangle}
 use Rattle.standard.specs.Picture as picture
-use Rattle.standard.specs.Sets.{Switches, switchesOf, componentOf}
+use Rattle.standard.specs.declared.Switches.{Switches}
+use Rattle.standard.specs.Sets.{switchesOf}
 use Rattle.standard.specs.Bins.{binsOf, packed}
-use Rattle.standard.specs.Samples.{layoutOf, at, sample, planeBy}
-use Rattle.standard.specs.Table.{stored}
+use Rattle.standard.specs.Samples.{at, planeBy, filteredSample}
+use Rattle.standard.specs.Table.{parametersIn}
 use Rattle.standard.specs.Reasons.{Planes, planeOf, markOf, leftSet, upperSet}
 use Rattle.standard.specs.Calls.{delivered, leading}
 use Rattle.standard.proofs.Decisions.{some?, Verdict, refusal, clear}
@@ -79,14 +80,14 @@ unfoldable pub act : Call → World → Result
 unfolding hear spellOut paintedIn finishedRows
 act Open w = record { answer = done; out = []; world = opened w }
 act (Read bytes count) w =
-    heardIn (hear (switchesOf (pictureOf w)) (leftSet (w .state) (w .table)) (upperSet (w .state) (w .table)) (binsOf bytes count)) (Read bytes count) w
+    heardIn (hear (switchesOf (w .state)) (leftSet (w .state) (w .table)) (upperSet (w .state) (w .table)) (binsOf bytes count)) (Read bytes count) w
 act (Write q out) w =
-    spelledIn (spellOut (switchesOf (pictureOf w)) (leftSet (w .state) (w .table)) (upperSet (w .state) (w .table)) q) out (Write q out) w
+    spelledIn (spellOut (switchesOf (w .state)) (leftSet (w .state) (w .table)) (upperSet (w .state) (w .table)) q) out (Write q out) w
 act (Deliver i k samples) w =
     let planes = paintedIn (pictureOf w) i k (delivered (rectangle (pictureOf w) i k) samples) (w .deblocked) in
     record { answer = done; out = []; world = withDelivered w i k planes }
 act (Filter i k) w =
-    let f = sample (layoutOf (pictureOf w) i) (componentOf (stored (w .table) k) i) (planeOf (w .deblocked) i) in
+    let f = filteredSample (pictureOf w) (parametersIn (w .table)) i k (planeOf (w .deblocked) i) in
     record { answer = done; out = []; world = withFiltered w i k (paintedIn (pictureOf w) i k f (w .filtered)) }
 act (Rows i) w =
     let n = finishedRows (w .state) i (w .marks) in

@@ -5,19 +5,19 @@ use mathlib.Core.List.{List, [], _∷_, _++_}
 use mathlib.Core.Logic.{_⊎_, inl, inr, ⊎-elim}
 use mathlib.Core.Option.{Option, some, none}
 use Prim.Native.Nat.{ℕ}
-use lib.ListN.{take, drop}
 use Rattle.standard.specs.declared.CtuSet.{CtuSet}
 use Rattle.standard.specs.declared.State.{State}
 use Rattle.standard.specs.declared.Refusal.the-variants.{TooEarly, BinsRemain}
 use Rattle.standard.specs.declared.ReadAnswer.{ReadAnswer}
 use Rattle.standard.specs.declared.ReadAnswer.the-variants.{Set, Refused}
-use Rattle.standard.specs.Picture.{leftOf, aboveOf}
-use Rattle.standard.specs.Sets.{Switches, switchesOf}
+use Rattle.standard.specs.Picture.{mergeLeft, mergeUp}
+use Rattle.standard.specs.declared.Switches.{Switches}
+use Rattle.standard.specs.Sets.{switchesOf}
 use Rattle.standard.specs.Bins.{binsOf}
 use Rattle.standard.specs.Means.{anyOn, notTaken, Means, Remain}
 use Rattle.standard.specs.Table.{Sound, stored, storedAt}
-use Rattle.standard.specs.Refusals.{numberOf, Clear}
-use Rattle.standard.specs.Reasons.{due, leftSet, upperSet, Copies, left, up, readReasons}
+use Rattle.standard.specs.Refusals.{numberOf, Reason, Clear}
+use Rattle.standard.specs.Reasons.{leftSet, upperSet, Copies, left, up, binsReasons}
 use Rattle.standard.proofs.Codes.{impossible}
 use Rattle.standard.proofs.Parts.{first-back, clear-both}
 use Rattle.standard.proofs.Reader.{meant-not-early, meant-not-remain, early-not-remain}
@@ -43,7 +43,7 @@ module _ (s : State) (bytes : List ℕ) (count : ℕ) (table : List ℕ) where
   bins = binsOf bytes count
 
   abbrev sw : Switches
-  sw = switchesOf (s .picture)
+  sw = switchesOf s
 
   abbrev L : Option CtuSet
   L = leftSet s table
@@ -56,9 +56,9 @@ module _ (s : State) (bytes : List ℕ) (count : ℕ) (table : List ℕ) where
   Formed f = ReadAs sw (isThere L) (isThere U) bins f
 
   abbrev Answers : ReadAnswer → Type 0
-  Answers r = Answered s bytes count table (drop 5 (readReasons s bytes count table)) r
+  Answers r = Answered s bytes count table (binsReasons s bytes count table) r
 
-  pub formed : {a b : Bool} (f : Form) → ReadAs sw a b bins f → There (leftOf (s .picture) (due s)) a → There (aboveOf (s .picture) (due s)) b → Formed f
+  pub formed : {a b : Bool} (f : Form) → ReadAs sw a b bins f → There (mergeLeft s) a → There (mergeUp s) b → Formed f
   formed f h l u = subst₂ (λ (a b : Bool). ReadAs sw a b bins f) (sym (l table)) (sym (u table)) h
 
   -- ---- a merge's form
@@ -70,18 +70,18 @@ module _ (s : State) (bytes : List ℕ) (count : ℕ) (table : List ℕ) where
   -- bins that merge, and mean a set, have the form of the merge: with both switches off, bins of a merge would remain
   module _ (remain : ¬ Remain sw L U bins) where
     copies-form : {j : ℕ} (on : Bool) → anyOn sw ≡ on → Copies s table bins j
-        → (Formed Left × (leftOf (s .picture) (due s) ≡ some j)) ⊎ (Formed Up × (aboveOf (s .picture) (due s) ≡ some j))
+        → (Formed Left × (mergeLeft s ≡ some j)) ⊎ (Formed Up × (mergeUp s ≡ some j))
     copies-form true on (left e b) = inl (left-form sw L U bins on (ap (λ (o : Option ℕ). isThere (storedAt table o)) e) b, e)
     copies-form true on (up e b) = inr (up-form sw L U bins on (ap (λ (o : Option ℕ). isThere (storedAt table o)) e) b, e)
     copies-form false off (left e b) = absurd (remain (off-bins none off b))
     copies-form false off (up e b) = absurd (remain (off-bins L off b))
 
     -- bins of one form have no other
-    left-only : {j : ℕ} → Formed Left → Copies s table bins j → leftOf (s .picture) (due s) ≡ some j
+    left-only : {j : ℕ} → Formed Left → Copies s table bins j → mergeLeft s ≡ some j
     left-only h c =
         ⊎-elim (λ t. t .1) (λ t. let same : Left ≡ Up = read-form-unique sw _ _ bins _ _ h (t .0) in impossible cc) (copies-form (anyOn sw) refl c)
 
-    up-only : {j : ℕ} → Formed Up → Copies s table bins j → aboveOf (s .picture) (due s) ≡ some j
+    up-only : {j : ℕ} → Formed Up → Copies s table bins j → mergeUp s ≡ some j
     up-only h c =
         ⊎-elim (λ t. let same : Up ≡ Left = read-form-unique sw _ _ bins _ _ h (t .0) in impossible cc) (λ t. t .1) (copies-form (anyOn sw) refl c)
 
@@ -125,14 +125,14 @@ module _ (s : State) (bytes : List ℕ) (count : ℕ) (table : List ℕ) where
         let m = merge-means (k .1) in
         (inr (meant-not-early m, inr (meant-not-remain m, inl ((k .0, copies _ (k .0) (k .1) m, bad (k .0) (k .1)), ap numberOf e))), tt)
 
-  pub answer-left : Formed Left → (r : ReadAnswer) → Copied sw table (leftOf (s .picture) (due s)) r → Answers r
-  answer-left h = answer-merge (leftOf (s .picture) (due s)) Left h refl (λ q k e m. left e (left-bins h m)) (λ j n c. left-only n h c)
+  pub answer-left : Formed Left → (r : ReadAnswer) → Copied sw table (mergeLeft s) r → Answers r
+  answer-left h = answer-merge (mergeLeft s) Left h refl (λ q k e m. left e (left-bins h m)) (λ j n c. left-only n h c)
 
-  pub answer-up : Formed Up → (r : ReadAnswer) → Copied sw table (aboveOf (s .picture) (due s)) r → Answers r
-  answer-up h = answer-merge (aboveOf (s .picture) (due s)) Up h refl (λ q k e m. up e (up-bins h m)) (λ j n c. up-only n h c)
+  pub answer-up : Formed Up → (r : ReadAnswer) → Copied sw table (mergeUp s) r → Answers r
+  answer-up h = answer-merge (mergeUp s) Up h refl (λ q k e m. up e (up-bins h m)) (λ j n c. up-only n h c)
 
--- an answer about the bins is one about all the reasons
-pub answered : (s : State) (bytes : List ℕ) (count : ℕ) (table : List ℕ) (r : ReadAnswer) → Clear (take 5 (readReasons s bytes count table))
-    → Answered s bytes count table (drop 5 (readReasons s bytes count table)) r → Answered s bytes count table (readReasons s bytes count table) r
-answered s bytes count table (Set q) c h = (clear-both 5 (readReasons s bytes count table) c (h .0), h .1)
-answered s bytes count table (Refused r) c h = (first-back 5 (readReasons s bytes count table) (numberOf r) c (h .0), h .1)
+-- an answer by the back of the reasons, where none of the front holds
+pub answered-after : (s : State) (bytes : List ℕ) (count : ℕ) (table : List ℕ) (front back : List Reason) (r : ReadAnswer) → Clear front
+    → Answered s bytes count table back r → Answered s bytes count table (front ++ back) r
+answered-after s bytes count table front back (Set q) c h = (clear-both front back c (h .0), h .1)
+answered-after s bytes count table front back (Refused r) c h = (first-back front back (numberOf r) c (h .0), h .1)

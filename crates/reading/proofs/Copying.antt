@@ -6,7 +6,7 @@ use Prim.Native.Nat.{ℕ}
 use Rattle.standard.specs.declared.CtuSet.{CtuSet}
 use Rattle.standard.specs.declared.Refusal.the-variants.{Stored}
 use Rattle.standard.specs.declared.ReadAnswer.the-variants.{Set, Refused}
-use Rattle.standard.specs.Sets.{Switches}
+use Rattle.standard.specs.declared.Switches.{Switches}
 use Rattle.standard.specs.Table.{Sound}
 use Rattle.standard.proofs.Codes.{impossible}
 use Rattle.standard.proofs.Refusing.{not-there, there}

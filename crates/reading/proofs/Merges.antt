@@ -4,7 +4,8 @@ use mathlib.Core.Bool.{Bool, true, false}
 use mathlib.Core.List.{List, [], _∷_, _++_}
 use mathlib.Core.Option.{Option, some, none}
 use Rattle.standard.specs.declared.CtuSet.{CtuSet}
-use Rattle.standard.specs.Sets.{Switches, Valid, allOff}
+use Rattle.standard.specs.declared.Switches.{Switches}
+use Rattle.standard.specs.Sets.{Valid, allOff}
 use Rattle.standard.specs.Bins.{full}
 use Rattle.standard.specs.Means.{anyOn, notTaken, Means, no-bins, merge-left, merge-up, in-full, Remain}
 use Rattle.standard.proofs.Codes.{impossible}

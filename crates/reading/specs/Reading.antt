@@ -8,7 +8,7 @@ use Rattle.standard.specs.declared.State.{State}
 use Rattle.standard.specs.declared.Refusal.the-variants.{Stored}
 use Rattle.standard.specs.declared.ReadAnswer.{ReadAnswer}
 use Rattle.standard.specs.declared.ReadAnswer.the-variants.{Set, Refused}
-use Rattle.standard.specs.Sets.{Switches}
+use Rattle.standard.specs.declared.Switches.{Switches}
 use Rattle.standard.specs.Bins.{binsOf}
 use Rattle.standard.specs.Table.{Sound, storedAt}
 use Rattle.standard.specs.Refusals.{Reason}

@@ -1,18 +1,20 @@
 // Read: the set that the bins of the next CTU mean is stored, and the CTU after it is due.
 use bins::Form;
 use geometry::Near;
+use lent::Bytes;
+use lent::Lent;
+use lent::Planes;
 use sets::Found;
 use standard::Answer;
-use standard::Picture;
 use standard::ReadAnswer;
 use standard::ReadOutcome;
 use standard::Refusal;
 use standard::State;
+use standard::Switches;
 ghost use Prim.Native.Nat.{_*_, _≤_};
-ghost use lib.ListN.{length, drop};
-ghost use Rattle.standard.specs.Sets.{switchesOf};
+ghost use lib.ListN.{length};
 ghost use Rattle.standard.specs.Refusals.{Tells};
-ghost use Rattle.standard.specs.Reasons.{CountExceedsTheBytes, readReasons};
+ghost use Rattle.standard.specs.Reasons.{CountExceedsTheBytes, binsReasons, readReasons};
 ghost use Rattle.standard.specs.Contracts.{ReadEnsures};
 ghost use Rattle.geometry.specs.Geometry.{nearOf};
 ghost use Rattle.lent.specs.Due.{Due, InTable};
@@ -46,13 +48,13 @@ fn is_there(n: Near) -> bool
 }
 
 // A merge copies the neighbour's set, which the table must hold within the rules.
-fn copied(p: Picture, table: &[u8], n: Near) -> ReadAnswer
+fn copied(s: Switches, table: &[u8], n: Near) -> ReadAnswer
     requires { ⌜ InTable (now table) (nearOf n) ⌝ }
-    ensures { λ r. ⌜ Copied (switchesOf p) (now (table .entry)) (nearOf n) r ⌝ }
+    ensures { λ r. ⌜ Copied s (now (table .entry)) (nearOf n) r ⌝ }
 {
     match n {
         Near::Nothing => ReadAnswer::Refused(Refusal::Stored),
-        Near::At(k) => match sets::get_set(p, table, k as usize) {
+        Near::At(k) => match sets::get_set(s, table, k as usize) {
             Found::Bad => ReadAnswer::Refused(Refusal::Stored),
             Found::Set(q) => ReadAnswer::Set(q),
         },
@@ -62,18 +64,17 @@ fn copied(p: Picture, table: &[u8], n: Near) -> ReadAnswer
 // The reasons of the bins, in document 01's order, or the set that they mean.
 fn bins_answer(state: State, bytes: &[u8], count: usize, table: &[u8]) -> ReadAnswer
     requires { ⌜ Due state (now table) × (count ≤ 8 * length (now bytes)) ⌝ }
-    ensures { λ r. ⌜ Answered state (now (bytes .entry)) count (now (table .entry)) (drop 5 (readReasons state (now (bytes .entry)) count (now (table .entry)))) r ⌝ }
+    ensures { λ r. ⌜ Answered state (now (bytes .entry)) count (now (table .entry)) (binsReasons state (now (bytes .entry)) count (now (table .entry))) r ⌝ }
 {
-    let p = state.picture;
-    let k = geometry::address_of(p, state.next);
-    let left = geometry::left_of(p, k);
-    let up = geometry::above_of(p, k);
-    let form = bins::read_form(p, is_there(left), is_there(up), bytes, count);
+    let s = geometry::switches_of(state);
+    let left = geometry::merge_left(state);
+    let up = geometry::merge_up(state);
+    let form = bins::read_form(s, is_there(left), is_there(up), bytes, count);
     match form {
         Form::TooEarly => ReadAnswer::Refused(Refusal::TooEarly),
         Form::BinsRemain => ReadAnswer::Refused(Refusal::BinsRemain),
-        Form::Left => copied(p, table, left),
-        Form::Up => copied(p, table, up),
+        Form::Left => copied(s, table, left),
+        Form::Up => copied(s, table, up),
         Form::Full(q) => ReadAnswer::Set(q),
     }
 }
@@ -83,7 +84,13 @@ fn bins_answer(state: State, bytes: &[u8], count: usize, table: &[u8]) -> ReadAn
 fn read_answer(state: State, bytes: &[u8], count: usize, table: &[u8]) -> ReadAnswer
     ensures { λ r. ⌜ Answered state (now (bytes .entry)) count (now (table .entry)) (readReasons state (now (bytes .entry)) count (now (table .entry))) r ⌝ }
 {
-    match lent::due_answer(state, table) {
+    let lent = Lent {
+        deblocked: Planes::NotLent,
+        filtered: Planes::NotLent,
+        marks: Bytes::NotLent,
+        table: Bytes::Length(table.len()),
+    };
+    match lent::due_answer(state, lent) {
         Answer::Refused(r) => ReadAnswer::Refused(r),
         Answer::Done => {
             if count_too_large(bytes, count) {
@@ -104,7 +111,7 @@ pub fn read(state: State, bytes: &[u8], count: usize, table: &mut [u8]) -> ReadO
         },
         ReadAnswer::Set(q) => {
             let after = state.advanced();
-            let k = geometry::address_of(state.picture, state.next);
+            let k = geometry::due_of(state);
             sets::put_set(table, k as usize, q);
             ReadOutcome {
                 answer: ReadAnswer::Set(q),

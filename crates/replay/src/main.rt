@@ -18,7 +18,7 @@
 //     3  poke     place b + 256 c of buffer a becomes n's low bits
 //     4  open
 //     5  read     a bytes more, the bins; their count is n, or where b is not 0 as much below 2^64 - 1
-//     6  write    18 bytes more, the set as an entry of the table; room for a bytes, each of them b
+//     6  write    as many bytes more as a set has, the set; room for a bytes, each of them b
 //     7  deliver  component a, CTB n; 10 bytes more: how many samples, a base and a spread, of two bytes
 //                 each, and a number x of four; and b times 4 bytes: a place and a sample, of two bytes
 //                 each. For each sample x becomes the next number of xorshift32; the sample is the base
@@ -26,21 +26,41 @@
 //     8  filter   component a, CTB n
 //     9  rows     component a
 //
-// A line has the call's letter, the refusal's number or 0; the set that was read, as an entry of the
-// table; or how many bins were written and the sum of the room; or how many rows are finished, and the
+// A line has the call's letter, the refusal's number or 0; the set that was read, as its
+// bytes; or how many bins were written and the sum of the room; or how many rows are finished, and the
 // length and the sum of the part handed out. Then stand the sums of the state, the deblocked planes,
 // the filtered planes, the marks and the table. A sum is 1 at first and becomes for each number in
-// turn the next number of xorshift32 after the sum XOR the number; it goes over whole buffers, lent or
-// not.
+// turn the next number of xorshift32 after the sum XOR the number. Of a buffer it goes over the part
+// that is lent and the 64 places after it, as far as there are so many.
 use standard::Answer;
 use standard::CtuSet;
 use standard::Picture;
 use standard::ReadAnswer;
 use standard::Refusal;
 use standard::RowsAnswer;
+use standard::SET_BYTES;
 use standard::State;
 use standard::WriteAnswer;
 ghost use Prim.Native.Nat.{_≤_};
+
+// How long the buffers are. They hold a picture of any format: each plane 128x128 samples, marks and
+// table 64 CTUs in three components with entries of up to 32 bytes, and a delivery a CTB of 64x64. A
+// row of samples or a CTU more is there for lengths that are too large.
+const PLANE: usize = 128 * 129;
+
+const CTUS: usize = 65;
+
+const MARKS: usize = 3 * CTUS;
+
+const TABLE: usize = 32 * CTUS;
+
+const DELIVERY: usize = 64 * 65;
+
+// The most bytes of bins that are given to be read, or lent for those to be written.
+const BINS: usize = 64;
+
+// How many places after the lent part of a buffer are summed with it.
+const GUARD: usize = 64;
 
 // How much of each buffer is lent.
 struct Lent {
@@ -111,28 +131,48 @@ fn number_of_switch(is_on: bool) -> u32 {
     if is_on { 1 } else { 0 }
 }
 
-fn sum_of_samples(sum: u32, samples: &[u16]) -> u32 {
+// How much of a buffer is summed.
+fn guarded(lent: usize, whole: usize) -> usize
+    ensures { λ r. ⌜ r ≤ whole ⌝ }
+{
+    let part = at_most(lent, whole);
+    part + at_most(GUARD, whole - part)
+}
+
+fn sum_of_samples(sum: u32, samples: &[u16], lent: usize) -> u32 {
+    let end = guarded(lent, samples.len());
     let mut v = sum;
     let mut i: usize = 0;
-    while i < samples.len() {
+    while i < end {
         v = next(v ^ number_of_sample(samples[i]));
         i += 1;
     }
     v
 }
 
-fn sum_of_bytes(sum: u32, bytes: &[u8]) -> u32 {
+fn sum_of_bytes(sum: u32, bytes: &[u8], lent: usize) -> u32 {
+    let end = guarded(lent, bytes.len());
     let mut v = sum;
     let mut i: usize = 0;
-    while i < bytes.len() {
+    while i < end {
         v = next(v ^ number_of_byte(bytes[i]));
         i += 1;
     }
     v
 }
 
-fn sum_of_planes(y: &[u16], cb: &[u16], cr: &[u16]) -> u32 {
-    sum_of_samples(sum_of_samples(sum_of_samples(1, y), cb), cr)
+fn sum_of_deblocked(lent: Lent, y: &[u16], cb: &[u16], cr: &[u16]) -> u32 {
+    let luma = sum_of_samples(1, y, lent.y);
+    sum_of_samples(sum_of_samples(luma, cb, lent.cb), cr, lent.cr)
+}
+
+fn sum_of_filtered(lent: Lent, out_y: &[u16], out_cb: &[u16], out_cr: &[u16]) -> u32 {
+    let luma = sum_of_samples(1, out_y, lent.out_y);
+    sum_of_samples(
+        sum_of_samples(luma, out_cb, lent.out_cb),
+        out_cr,
+        lent.out_cr,
+    )
 }
 
 fn sum_of_picture(sum: u32, p: Picture) -> u32 {
@@ -167,10 +207,10 @@ fn print_bytes(bytes: &[u8]) {
 }
 
 fn print_set(q: CtuSet) {
-    let mut entry = [0u8; 18];
-    sets::put_set(&mut entry, 0, q);
+    let mut set = [0u8; SET_BYTES];
+    sets::say_set(&mut set, q);
     io::write_all(1, b" ");
-    print_bytes(&entry);
+    print_bytes(&set);
 }
 
 fn print_refusal(r: Refusal) {
@@ -248,7 +288,7 @@ fn read_into(state: State, head: &[u8; 8], bytes: &mut [u8], table: &mut [u8]) -
 fn read(state: State, lent: Lent, head: &[u8; 8], table: &mut [u8]) -> State {
     io::write_all(1, b"r");
     let n = at_most(lent.table, table.len());
-    let mut bytes = [0u8; 64];
+    let mut bytes = [0u8; BINS];
     read_into(state, head, &mut bytes, &mut table[..n])
 }
 
@@ -257,7 +297,7 @@ fn write_into(state: State, head: &[u8; 8], q: CtuSet, room: &mut [u8], table: &
     let o = writing::write(state, q, &mut room[..lent], table);
     let a = o.answer;
     print_written(a);
-    print_sum(sum_of_bytes(1, room));
+    print_sum(sum_of_bytes(1, room, room.len()));
     let after = o.state;
     after
 }
@@ -265,13 +305,13 @@ fn write_into(state: State, head: &[u8; 8], q: CtuSet, room: &mut [u8], table: &
 fn write(state: State, lent: Lent, head: &[u8; 8], table: &mut [u8]) -> State {
     io::write_all(1, b"w");
     let n = at_most(lent.table, table.len());
-    let mut entry = [0u8; 18];
-    io::read_full(0, &mut entry);
-    let mut room = [head[2]; 64];
+    let mut set = [0u8; SET_BYTES];
+    io::read_full(0, &mut set);
+    let mut room = [head[2]; BINS];
     write_into(
         state,
         head,
-        sets::set_said(&entry),
+        sets::set_said(&set),
         &mut room,
         &mut table[..n],
     )
@@ -371,7 +411,7 @@ fn deliver(
     let ncb = at_most(lent.cb, cb.len());
     let ncr = at_most(lent.cr, cr.len());
     let n = at_most(lent.marks, marks.len());
-    let mut samples = [0u16; 1024];
+    let mut samples = [0u16; DELIVERY];
     deliver_from(
         state,
         head,
@@ -437,7 +477,7 @@ fn rows_of<'a>(
     print_rows(a);
     let part = finishing::finished_rows(state, component, out_y, out_cb, out_cr, marks);
     print_number(part.len());
-    print_sum(sum_of_samples(1, part));
+    print_sum(sum_of_samples(1, part, part.len()));
     let after = o.state;
     after
 }
@@ -664,14 +704,14 @@ fn call(
 // Makes one command, and says whether there was one.
 fn turn(
     k: Kept,
-    y: &mut [u16; 1024],
-    cb: &mut [u16; 256],
-    cr: &mut [u16; 256],
-    out_y: &mut [u16; 1024],
-    out_cb: &mut [u16; 256],
-    out_cr: &mut [u16; 256],
-    marks: &mut [u8; 32],
-    table: &mut [u8; 128],
+    y: &mut [u16; PLANE],
+    cb: &mut [u16; PLANE],
+    cr: &mut [u16; PLANE],
+    out_y: &mut [u16; PLANE],
+    out_cb: &mut [u16; PLANE],
+    out_cr: &mut [u16; PLANE],
+    marks: &mut [u8; MARKS],
+    table: &mut [u8; TABLE],
 ) -> Kept {
     let mut head = [0u8; 8];
     let lent = k.lent;
@@ -688,10 +728,10 @@ fn turn(
     }
     let state = call(&head, k, y, cb, cr, out_y, out_cb, out_cr, marks, table);
     print_sum(sum_of_state(state));
-    print_sum(sum_of_planes(y, cb, cr));
-    print_sum(sum_of_planes(out_y, out_cb, out_cr));
-    print_sum(sum_of_bytes(1, marks));
-    print_sum(sum_of_bytes(1, table));
+    print_sum(sum_of_deblocked(lent, y, cb, cr));
+    print_sum(sum_of_filtered(lent, out_y, out_cb, out_cr));
+    print_sum(sum_of_bytes(1, marks, lent.marks));
+    print_sum(sum_of_bytes(1, table, lent.table));
     io::write_all(1, b"\n");
     Kept {
         state,
@@ -732,14 +772,14 @@ fn start() -> Kept {
 // A proved loop has to end, and nothing says that the input does: so the turns are counted down, from
 // a number that no run uses up.
 fn main() {
-    let mut y = [0u16; 1024];
-    let mut cb = [0u16; 256];
-    let mut cr = [0u16; 256];
-    let mut out_y = [0u16; 1024];
-    let mut out_cb = [0u16; 256];
-    let mut out_cr = [0u16; 256];
-    let mut marks = [0u8; 32];
-    let mut table = [0u8; 128];
+    let mut y = [0u16; PLANE];
+    let mut cb = [0u16; PLANE];
+    let mut cr = [0u16; PLANE];
+    let mut out_y = [0u16; PLANE];
+    let mut out_cb = [0u16; PLANE];
+    let mut out_cr = [0u16; PLANE];
+    let mut marks = [0u8; MARKS];
+    let mut table = [0u8; TABLE];
     let mut k = start();
     let mut turns = u64::MAX;
     while turns > 0 && k.more {

@@ -1,4 +1,4 @@
--- How the pieces of a block make the block: above, left, the inner part, right, below.
+-- How the parts of a block make the block, and what is lent of each.
 use mathlib.Core.Path.{_≡_, _∙_, subst}
 use mathlib.Core.List.{List}
 use Prim.Native.Nat.{ℕ, _+_, _≤_, _<_}
@@ -12,16 +12,16 @@ use Rattle.planes.specs.Places.{block, row}
 use Rattle.planes.proofs.Blocks.{rows-then, columns-then}
 use Rattle.samples.specs.Blocks.{Lent}
 
--- columns x0, a, b, x1 and rows y0, c, d, y1, each not beyond the next
-module _ {w h : ℕ} {f : ℕ → ℕ → ℕ} {o o1 o2 o3 o4 o5 : List ℕ} (x0 a b x1 y0 c d y1 : ℕ)
-    (p : x0 ≤ a) (q : a ≤ b) (r : b ≤ x1) (s : y0 ≤ c) (t : c ≤ d) (u : d ≤ y1) where
-  pub assembled : Written w h (block x0 x1 y0 c) f o o1 → Written w h (block x0 a c d) f o1 o2 → Written w h (block a b c d) f o2 o3
-      → Written w h (block b x1 c d) f o3 o4 → Written w h (block x0 x1 d y1) f o4 o5 → Written w h (block x0 x1 y0 y1) f o o5
-  assembled above left middle right below =
-      let pq : x0 ≤ b = omega arith in
-      let st : y0 ≤ d = omega arith in
-      rows-then x0 x1 y0 d y1 st u
-      (rows-then x0 x1 y0 c d s t above (columns-then x0 b x1 c d pq r (columns-then x0 a b c d p q left middle) right)) below
+module _ {w h : ℕ} {f : ℕ → ℕ → ℕ} {o o1 o2 o3 : List ℕ} where
+  -- columns x0, a, b, x1, each not beyond the next
+  pub beside-one-another : (x0 a b x1 y0 y1 : ℕ) → x0 ≤ a → a ≤ b → b ≤ x1
+      → Written w h (block x0 a y0 y1) f o o1 → Written w h (block a b y0 y1) f o1 o2 → Written w h (block b x1 y0 y1) f o2 o3 → Written w h (block x0 x1 y0 y1) f o o3
+  beside-one-another x0 a b x1 y0 y1 p q r u v w = columns-then x0 b x1 y0 y1 (omega arith) r (columns-then x0 a b y0 y1 p q u v) w
+
+  -- rows y0, c, d, y1
+  pub below-one-another : (x0 x1 y0 c d y1 : ℕ) → y0 ≤ c → c ≤ d → d ≤ y1
+      → Written w h (block x0 x1 y0 c) f o o1 → Written w h (block x0 x1 c d) f o1 o2 → Written w h (block x0 x1 d y1) f o2 o3 → Written w h (block x0 x1 y0 y1) f o o3
+  below-one-another x0 x1 y0 c d y1 p q r u v w = rows-then x0 x1 y0 d y1 (omega arith) r (rows-then x0 x1 y0 c d p q u v) w
 
 -- the rows of a loop that has come to its end
 pub at-end : {w h : ℕ} {f : ℕ → ℕ → ℕ} {o o′ : List ℕ} (r : Rectangle) (y : ℕ) → y ≤ r .y1 → r .y1 ≤ y

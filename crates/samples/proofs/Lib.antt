@@ -1,9 +1,13 @@
 pub mod Machine
 pub mod Tables
 pub mod Reach
-pub mod Borders
+pub mod Sides
+pub mod Parts
+pub mod Open
 pub mod Assembly
-pub mod Pieces
+pub mod Bands
+pub mod Picture
+pub mod Blockwise
 pub mod Standard
 pub mod Order
 pub mod Unique

@@ -1,6 +1,6 @@
 -- What the block functions write is the standard's filtered sample.
 use mathlib.Core.Path.{_≡_, refl, sym, ap, _∙_, subst}
-use mathlib.Core.Bool.{cond}
+use mathlib.Core.Bool.{Bool, false, cond}
 use mathlib.Core.List.{List}
 use Prim.Native.Nat.{ℕ, _≤_, _<_}
 use native.Mathlib.Omega.{arith}
@@ -12,65 +12,78 @@ use Rattle.standard.specs.declared.Offsets.the-variants.{Off, Band, Edge}
 use Rattle.standard.specs.declared.Rectangle.{Rectangle}
 use Rattle.standard.specs.Picture.{Inside}
 use Rattle.standard.specs.Calls.{Written}
-use Rattle.standard.specs.Samples.{at, kept, modified, bandSample, edgeSample, bandIdx, edgeIdxOf, neighbour, stepsOf, sample}
+use Rattle.standard.specs.Samples.{Context, at, modified, bandSample, edgeSample, bandIdx, edgeIdxOf, neighbour, stepsOf, sample}
 use Rattle.planes.proofs.Blocks.{same-samples}
 use Rattle.rows.specs.declared.Scaled.{Scaled}
 use Rattle.rows.specs.declared.Moves.{Moves}
 use Rattle.rows.specs.Moves.{scaledBy, movesOf, Room}
 use Rattle.rows.proofs.Shifts.{moved-is, room-of}
+use Rattle.samples.specs.declared.Around.{Around}
+use Rattle.samples.specs.Around.{contextFrom, Agrees}
+use Rattle.samples.proofs.Open.{same-context}
 use Rattle.samples.specs.Blocks.{Under, Ready, byBand, byEdge}
 
-module _ (l : Layout) (plane : List ℕ) (x y : ℕ) where
-  -- no sample is kept
-  unkept : (set : Offsets) → modified l set plane x y ≡ sample l set plane x y
-  unfolding sample kept
-  unkept set = refl
+-- where no sample is kept
+module _ (l : Layout) (context : Context) (plane : List ℕ) (x y : ℕ) (free : context .kept x y ≡ false) where
+  unkept : (set : Offsets) → modified l context set plane x y ≡ sample l context set plane x y
+  unfolding sample
+  unkept set = sym (ap (λ (t : Bool). cond t (at plane (l .width) x y) (modified l context set plane x y)) free)
 
-  pub off-is : at plane (l .width) x y ≡ sample l Off plane x y
+  pub off-is : at plane (l .width) x y ≡ sample l context Off plane x y
   unfolding modified
   off-is = unkept Off
 
   pub band-is : (position : ℕ) (o1 o2 o3 o4 : ℤ) → at plane (l .width) x y ≤ 65535
-      → byBand l (movesOf (l .depth) (scaledBy (l .shift) o1 o2 o3 o4)) position plane x y ≡ sample l (Band position o1 o2 o3 o4) plane x y
+      → byBand l (movesOf (l .depth) (scaledBy (l .shift) o1 o2 o3 o4)) position plane x y ≡ sample l context (Band position o1 o2 o3 o4) plane x y
   unfolding modified bandSample
   band-is position o1 o2 o3 o4 h =
       moved-is (l .depth) (l .shift) (bandIdx (l .depth) position (at plane (l .width) x y)) (at plane (l .width) x y) o1 o2 o3 o4 h
       ∙ unkept (Band position o1 o2 o3 o4)
 
   pub edge-is : (class : ℕ) (o1 o2 o3 o4 : ℤ) → at plane (l .width) x y ≤ 65535
-      → byEdge l (movesOf (l .depth) (scaledBy (l .shift) o1 o2 o3 o4)) (stepsOf class .0) (stepsOf class .1) plane x y ≡ sample l (Edge class o1 o2 o3 o4) plane x y
+      → byEdge l context (movesOf (l .depth) (scaledBy (l .shift) o1 o2 o3 o4)) class plane x y ≡ sample l context (Edge class o1 o2 o3 o4) plane x y
   unfolding modified edgeSample
   edge-is class o1 o2 o3 o4 h =
       moved-is (l .depth) (l .shift)
-      (edgeIdxOf (at plane (l .width) x y) (neighbour l plane x y (stepsOf class .0)) (neighbour l plane x y (stepsOf class .1)))
+      (edgeIdxOf (at plane (l .width) x y) (neighbour l context plane x y (stepsOf class .0)) (neighbour l context plane x y (stepsOf class .1)))
       (at plane (l .width) x y) o1 o2 o3 o4 h
       ∙ unkept (Edge class o1 o2 o3 o4)
 
 -- ---- of the samples of a block
 
 -- a set by another name
-by-set : (l : Layout) (plane : List ℕ) {r : Rectangle} {o o′ : List ℕ} {s t : Offsets} → t ≡ s
-    → Written (l .width) (l .height) r (sample l s plane) o o′ → Written (l .width) (l .height) r (sample l t plane) o o′
-by-set l plane {r} {o} {o′} e = subst (λ (k : Offsets). Written (l .width) (l .height) r (sample l k plane) o o′) (sym e)
+by-set : (l : Layout) (context : Context) (plane : List ℕ) {r : Rectangle} {o o′ : List ℕ} {s t : Offsets} → t ≡ s
+    → Written (l .width) (l .height) r (sample l context s plane) o o′ → Written (l .width) (l .height) r (sample l context t plane) o o′
+by-set l context plane {r} {o} {o′} e = subst (λ (k : Offsets). Written (l .width) (l .height) r (sample l context k plane) o o′) (sym e)
 
-module _ {l : Layout} {set : Offsets} {r : Rectangle} {plane out : List ℕ} (k : Ready l set r plane out) where
+module _ {l : Layout} {set : Offsets} {around : Around} {r : Rectangle} {plane out : List ℕ} (k : Ready l set around r plane out) where
   fits : (x y : ℕ) → Inside r x y → at plane (l .width) x y ≤ 65535
   fits x y i = omega (arith, k .deep x y i, pow-mono (k .most))
 
-  pub off-block : {o o′ : List ℕ} → set ≡ Off → Written (l .width) (l .height) r (at plane (l .width)) o o′ → Written (l .width) (l .height) r (sample l set plane) o o′
-  off-block e w = by-set l plane e (same-samples (λ x y p q i. off-is l plane x y) w)
+  -- under a context that the answers agree with
+  module _ {context : Context} (g : Agrees context r around) where
+    pub off-block : {o o′ : List ℕ} → set ≡ Off → Written (l .width) (l .height) r (at plane (l .width)) o o′
+        → Written (l .width) (l .height) r (sample l context set plane) o o′
+    off-block e w = by-set l context plane e (same-samples (λ x y p q i. off-is l context plane x y (g .kept x y i)) w)
 
-  pub band-block : {o o′ : List ℕ} {m : Moves} {position : ℕ} {o1 o2 o3 o4 : ℤ} → set ≡ Band position o1 o2 o3 o4 → m ≡ movesOf (l .depth) (scaledBy (l .shift) o1 o2 o3 o4)
-      → Written (l .width) (l .height) r (byBand l m position plane) o o′ → Written (l .width) (l .height) r (sample l set plane) o o′
-  band-block {m = m} {position} {o1} {o2} {o3} {o4} e f w =
-      by-set l plane e
-      (same-samples (λ x y p q i. ap (λ (v : Moves). byBand l v position plane x y) f ∙ band-is l plane x y position o1 o2 o3 o4 (fits x y i)) w)
+    pub band-block : {o o′ : List ℕ} {m : Moves} {position : ℕ} {o1 o2 o3 o4 : ℤ} → set ≡ Band position o1 o2 o3 o4
+        → m ≡ movesOf (l .depth) (scaledBy (l .shift) o1 o2 o3 o4)
+        → Written (l .width) (l .height) r (byBand l m position plane) o o′ → Written (l .width) (l .height) r (sample l context set plane) o o′
+    band-block {m = m} {position} {o1} {o2} {o3} {o4} e f w =
+        by-set l context plane e
+        (same-samples
+        (λ x y p q i. ap (λ (v : Moves). byBand l v position plane x y) f ∙ band-is l context plane x y (g .kept x y i) position o1 o2 o3 o4 (fits x y i)) w)
 
-  pub edge-block : {o o′ : List ℕ} {m : Moves} {class : ℕ} {o1 o2 o3 o4 : ℤ} → set ≡ Edge class o1 o2 o3 o4 → m ≡ movesOf (l .depth) (scaledBy (l .shift) o1 o2 o3 o4)
-      → Written (l .width) (l .height) r (byEdge l m (stepsOf class .0) (stepsOf class .1) plane) o o′ → Written (l .width) (l .height) r (sample l set plane) o o′
-  edge-block {m = m} {class} {o1} {o2} {o3} {o4} e f w =
-      by-set l plane e
-      (same-samples (λ x y p q i. ap (λ (v : Moves). byEdge l v (stepsOf class .0) (stepsOf class .1) plane x y) f ∙ edge-is l plane x y class o1 o2 o3 o4 (fits x y i)) w)
+    pub edge-block : {o o′ : List ℕ} {m : Moves} {class : ℕ} {o1 o2 o3 o4 : ℤ} → class < 4 → set ≡ Edge class o1 o2 o3 o4
+        → m ≡ movesOf (l .depth) (scaledBy (l .shift) o1 o2 o3 o4)
+        → Written (l .width) (l .height) r (byEdge l (contextFrom r around) m class plane) o o′ → Written (l .width) (l .height) r (sample l context set plane) o o′
+    edge-block {m = m} {class} {o1} {o2} {o3} {o4} h e f w =
+        by-set l context plane e
+        (same-samples
+        (λ x y p q i.
+        let c = g .counts x y i class h in
+        same-context l (contextFrom r around) plane x y context m class (sym (c .0)) (sym (c .1))
+        ∙ ap (λ (v : Moves). byEdge l context v class plane x y) f ∙ edge-is l context plane x y (g .kept x y i) class o1 o2 o3 o4 (fits x y i)) w)
 
   -- the moves of a set have room, and no sample of the block is above their top
   pub room-for : {m : Moves} (o : Scaled) → m ≡ movesOf (l .depth) o → Room m

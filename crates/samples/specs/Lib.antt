@@ -1,3 +1,5 @@
 pub mod Steps
+pub mod Around
+pub mod Blockwise
 pub mod Blocks
 pub mod Order

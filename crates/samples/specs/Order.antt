@@ -7,7 +7,7 @@ use Rattle.standard.specs.declared.Layout.{Layout}
 use Rattle.standard.specs.declared.Offsets.{Offsets}
 use Rattle.standard.specs.declared.Rectangle.{Rectangle}
 use Rattle.standard.specs.Picture.{Inside}
-use Rattle.standard.specs.Samples.{sample}
+use Rattle.standard.specs.Samples.{Context, sample}
 use Rattle.standard.specs.Calls.{Written}
 
 pub record Block : Type 0 where
@@ -15,10 +15,10 @@ pub record Block : Type 0 where
   pub set : Offsets
 
 -- each call did what `filter_block` ensures
-pub data Calls (l : Layout) (plane : List ℕ) : List Block → List ℕ → List ℕ → Type 0 where
-  no-call : {o : List ℕ} → Calls l plane [] o o
-  a-call : {b : Block} {bs : List Block} {o o′ o″ : List ℕ} → Written (l .width) (l .height) (b .place) (sample l (b .set) plane) o o′ → Calls l plane bs o′ o″
-      → Calls l plane (b ∷ bs) o o″
+pub data Calls (l : Layout) (context : Context) (plane : List ℕ) : List Block → List ℕ → List ℕ → Type 0 where
+  no-call : {o : List ℕ} → Calls l context plane [] o o
+  a-call : {b : Block} {bs : List Block} {o o′ o″ : List ℕ} → Written (l .width) (l .height) (b .place) (sample l context (b .set) plane) o o′ → Calls l context plane bs o′ o″
+      → Calls l context plane (b ∷ bs) o o″
 
 -- the place lies in one of the blocks
 abbrev pub Done : List Block → ℕ → ℕ → Type 0

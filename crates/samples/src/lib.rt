@@ -1,6 +1,6 @@
 // The filter of one block (H.265 8.7.3): the deblocked plane is read, the filtered plane is written.
-// Type and class are looked at once per block, and picture borders lie outside the loops over
-// samples. CTB edges are no borders: neighbours are samples of the same deblocked plane.
+// Type and class are looked at once per block, and what may not be compared lies outside the loops
+// over samples. Neighbours are samples of the same deblocked plane.
 use planes::copy_row;
 use planes::index;
 use rows::Moves;
@@ -12,18 +12,21 @@ use standard::Layout;
 use standard::Offsets;
 use standard::Rectangle;
 ghost use mathlib.Core.Path.{_≡_};
-ghost use Prim.Native.Nat.{_+_, _-_, _*_, _^_, _≤_, _<_};
-ghost use lib.IntN.{pos, natAbs, _+ℤ_};
+ghost use mathlib.Core.Bool.{true, _&&_};
+ghost use Prim.Native.Nat.{ℕ, _+_, _-_, _*_, _^_, _≤_, _<_, min, max};
+ghost use lib.IntN.{pos, negsuc, natAbs, _+ℤ_};
 ghost use lib.ListN.{length};
 ghost use Rattle.standard.specs.Picture.{Inside};
 ghost use Rattle.standard.specs.Sets.{NotNegative};
-ghost use Rattle.standard.specs.Samples.{stepsOf, at, sample};
+ghost use Rattle.standard.specs.Samples.{Context, stepsOf, at, sample};
 ghost use Rattle.standard.specs.Calls.{Written};
+ghost use Rattle.standard.proofs.Counting.{Place};
 ghost use Rattle.planes.specs.Places.{block, row};
 ghost use Rattle.rows.specs.Moves.{scaledBy, movesOf, Room};
 ghost use Rattle.rows.specs.Parts.{Banded};
-ghost use Rattle.samples.specs.Steps.{stepTo, entryOf, Near, Cut, Inner};
-ghost use Rattle.samples.specs.Blocks.{Lent, Under, Ready, byBand, byEdge};
+ghost use Rattle.samples.specs.Steps.{stepTo, entryOf, Reach};
+ghost use Rattle.samples.specs.Around.{sideOf, rowOf, pickOf, answerOf, isOpen, AllOf, AllOpen, Alike, Differ, Parted, contextFrom, Agrees, pictureAround};
+ghost use Rattle.samples.specs.Blocks.{Lent, Under, Ready, EdgeReady, byBand, byEdge, compared, edgeIf};
 
 // ---- steps to the neighbours
 
@@ -71,62 +74,215 @@ fn stepped(v: usize, d: i32) -> usize
     ((v as i64) + (d as i64)) as usize
 }
 
-// ---- picture borders
+// ---- what may be compared
 
-// Columns, or rows, c up to and without d.
-struct Ends {
-    c: usize,
-    d: usize,
+// May a sample of a block be compared with a sample of each of the eight blocks around it?
+pub struct Around {
+    pub northwest: bool,
+    pub north: bool,
+    pub northeast: bool,
+    pub west: bool,
+    pub east: bool,
+    pub southwest: bool,
+    pub south: bool,
+    pub southeast: bool,
 }
 
-// The first from a on that is not 0.
-fn first(a: usize) -> usize
-    ensures { λ r. ⌜ r ≡ a + (1 - a) ⌝ }
-{
-    if a == 0 { 1 } else { a }
+// Where a neighbour lies, across or down: before the block, in it or after it.
+enum Side {
+    Before,
+    Within,
+    After,
 }
 
-// Of the columns, or rows, a up to and without b, those that are at no end of a side of n.
-fn cut(n: usize, a: usize, b: usize) -> Ends
-    requires { ⌜ (a < b) × (b ≤ n) ⌝ }
-    ensures { λ r. ⌜ Cut n a b (r .c) (r .d) ⌝ }
+// The answers of three blocks beside one another.
+struct Three {
+    before: bool,
+    within: bool,
+    after: bool,
+}
+
+fn also(a: bool, b: bool) -> bool
+    ensures { λ r. ⌜ r ≡ (a && b) ⌝ }
 {
-    let c = first(a);
-    if b == n {
-        if c < b {
-            return Ends { c: c, d: b - 1 };
+    if a { b } else { false }
+}
+
+// The answers that bar what is outside the picture, and nothing else.
+pub fn in_picture(l: Layout, r: Rectangle) -> Around
+    ensures { λ o. ⌜ o ≡ pictureAround l r ⌝ }
+{
+    let west = 0 < r.x0;
+    let east = r.x1 < l.width;
+    let north = 0 < r.y0;
+    let south = r.y1 < l.height;
+    Around {
+        northwest: also(west, north),
+        north,
+        northeast: also(east, north),
+        west,
+        east,
+        southwest: also(west, south),
+        south,
+        southeast: also(east, south),
+    }
+}
+
+fn row_of(o: Around, down: Side) -> Three
+    ensures { λ r. ⌜ r ≡ rowOf o down ⌝ }
+{
+    match down {
+        Side::Before => Three {
+            before: o.northwest,
+            within: o.north,
+            after: o.northeast,
+        },
+        Side::Within => Three {
+            before: o.west,
+            within: true,
+            after: o.east,
+        },
+        Side::After => Three {
+            before: o.southwest,
+            within: o.south,
+            after: o.southeast,
+        },
+    }
+}
+
+fn pick(t: Three, across: Side) -> bool
+    ensures { λ r. ⌜ r ≡ pickOf t across ⌝ }
+{
+    match across {
+        Side::Before => t.before,
+        Side::Within => t.within,
+        Side::After => t.after,
+    }
+}
+
+fn answer(o: Around, across: Side, down: Side) -> bool
+    ensures { λ r. ⌜ r ≡ answerOf o across down ⌝ }
+{
+    pick(row_of(o, down), across)
+}
+
+// Of two neighbours.
+fn both(o: Around, across: Side, down: Side, across2: Side, down2: Side) -> bool
+    ensures { λ r. ⌜ r ≡ (answerOf o across down && answerOf o across2 down2) ⌝ }
+{
+    if answer(o, across, down) {
+        answer(o, across2, down2)
+    } else {
+        false
+    }
+}
+
+// The side of the column, or row, before x, and of the one after it, of a block from a on or up
+// to and without b.
+fn back(a: usize, x: usize) -> Side
+    requires { ⌜ a ≤ x ⌝ }
+    ensures { λ r. ⌜ ((b : ℕ) → x < b → r ≡ sideOf a b (pos x +ℤ negsuc 0)) ⌝ }
+{
+    if x == a { Side::Before } else { Side::Within }
+}
+
+fn onward(b: usize, x: usize) -> Side
+    requires { ⌜ (x < b) × (b ≤ 8192) ⌝ }
+    ensures { λ r. ⌜ ((a : ℕ) → a ≤ x → r ≡ sideOf a b (pos x +ℤ pos 1)) ⌝ }
+{
+    if x + 1 == b {
+        Side::After
+    } else {
+        Side::Within
+    }
+}
+
+// Whether both neighbours of column x of row y may be compared with it.
+fn is_open(o: Around, class: u8, r: Rectangle, x: usize, y: usize) -> bool
+    requires { ⌜ Inside r x y × (r .x1 ≤ 8192) × (r .y1 ≤ 8192) × (class < 4) ⌝ }
+    ensures { λ t. ⌜ t ≡ isOpen o r class x y ⌝ }
+{
+    let west = back(r.x0, x);
+    let east = onward(r.x1, x);
+    let north = back(r.y0, y);
+    let south = onward(r.y1, y);
+    let here = Side::Within;
+    match class {
+        0 => both(o, west, here, east, here),
+        1 => both(o, here, north, here, south),
+        2 => both(o, west, north, east, south),
+        _ => both(o, east, north, west, south),
+    }
+}
+
+// Whether nothing is barred.
+fn all_of(t: Three) -> bool
+    ensures { λ r. ⌜ (r ≡ true → AllOf t) ⌝ }
+{
+    if t.before {
+        if t.within {
+            return t.after;
         }
     }
-    Ends { c: c, d: b }
+    false
 }
 
-// The part of r whose samples have both neighbours in the picture. Class 0 compares along a row,
-// class 1 along a column, and the others both ways.
-fn inner(l: Layout, class: u8, r: Rectangle) -> Rectangle
-    requires { ⌜ (r .x0 < r .x1) × (r .x1 ≤ l .width) × (r .y0 < r .y1) × (r .y1 ≤ l .height) ⌝ }
-    ensures { λ i. ⌜ Inner l class r i ⌝ }
+fn all_open(o: Around) -> bool
+    ensures { λ r. ⌜ (r ≡ true → AllOpen o) ⌝ }
 {
-    let across = cut(l.width, r.x0, r.x1);
-    let down = cut(l.height, r.y0, r.y1);
-    match class {
-        0 => Rectangle {
-            x0: across.c,
-            x1: across.d,
-            y0: r.y0,
-            y1: r.y1,
-        },
-        1 => Rectangle {
-            x0: r.x0,
-            x1: r.x1,
-            y0: down.c,
-            y1: down.d,
-        },
-        _ => Rectangle {
-            x0: across.c,
-            x1: across.d,
-            y0: down.c,
-            y1: down.d,
-        },
+    if all_of(row_of(o, Side::Before)) {
+        if all_of(row_of(o, Side::Within)) {
+            return all_of(row_of(o, Side::After));
+        }
+    }
+    false
+}
+
+// ---- the parts of a row
+
+// 1 where two answers differ, and 0 where they do not.
+fn differ(p: bool, q: bool) -> usize
+    ensures { λ r. ⌜ Differ p q r ⌝ }
+{
+    if p == q { 0 } else { 1 }
+}
+
+// The second of a to z, if there is one.
+fn second(a: usize, z: usize) -> usize
+    requires { ⌜ a ≤ z ⌝ }
+    ensures { λ r. ⌜ r ≡ min (a + 1) z ⌝ }
+{
+    if a == z { z } else { a + 1 }
+}
+
+// A row in three parts: up to and without c, then up to and without d, and the rest; in each both
+// neighbours of every sample may be compared with it, or in each of them they may not.
+struct Runs {
+    c: usize,
+    d: usize,
+    first: bool,
+    middle: bool,
+    last: bool,
+}
+
+// All the columns between the first and the last have their neighbours across in the block.
+fn runs_of(o: Around, class: u8, r: Rectangle, y: usize) -> Runs
+    requires { ⌜ Inside r (r .x0) y × (r .x1 ≤ 8192) × (r .y1 ≤ 8192) × (class < 4) ⌝ }
+    ensures { λ k. ⌜ Parted (λ x. isOpen o r class x y) (r .x0) (r .x1) k ⌝ }
+{
+    let z = r.x1 - 1;
+    let e = second(r.x0, z);
+    let first = is_open(o, class, r, r.x0, y);
+    let middle = is_open(o, class, r, e, y);
+    let last = is_open(o, class, r, z, y);
+    let c = r.x0 + differ(first, middle);
+    let d = r.x1 - differ(last, middle);
+    Runs {
+        c,
+        d,
+        first,
+        middle,
+        last,
     }
 }
 
@@ -135,7 +291,7 @@ fn inner(l: Layout, class: u8, r: Rectangle) -> Rectangle
 // Where the neighbour of column x of row y stands in the plane.
 fn place(l: Layout, s: Step, x: usize, y: usize) -> usize
     requires { ⌜ (l .width ≤ 8192) × (l .height ≤ 8192) × (x ≤ 8192) × (y ≤ 8192) ⌝ }
-    requires { ⌜ Near l (stepTo s) (row x (x + 1) y) ⌝ }
+    requires { ⌜ Place (l .width) (l .height) (pos x +ℤ s .dx) (pos y +ℤ s .dy) ⌝ }
     ensures { λ r. ⌜ r ≡ natAbs (pos y +ℤ s .dy) * l .width + natAbs (pos x +ℤ s .dx) ⌝ }
 {
     let u = stepped(x, s.dx);
@@ -186,8 +342,8 @@ fn edge_line(
     out: &mut [u16],
 )
     requires { ⌜ Lent l (row x0 x1 y) (now plane) (now out) × (x0 < x1) ⌝ }
-    requires { ⌜ Room m × Near l (stepTo a) (row x0 x1 y) × Near l (stepTo b) (row x0 x1 y) ⌝ }
-    ensures { λ _. ⌜ Written (l .width) (l .height) (row x0 x1 y) (byEdge l m (stepTo a) (stepTo b) (now (plane .entry))) (now (out .entry)) (now (out .exit)) ⌝ }
+    requires { ⌜ Room m × Reach l (stepTo a) (row x0 x1 y) × Reach l (stepTo b) (row x0 x1 y) ⌝ }
+    ensures { λ _. ⌜ Written (l .width) (l .height) (row x0 x1 y) (compared l m (stepTo a) (stepTo b) (now (plane .entry))) (now (out .entry)) (now (out .exit)) ⌝ }
 {
     let k = x1 - x0;
     let i = index(l.width, l.height, x0, y);
@@ -234,8 +390,8 @@ fn band_rows(l: Layout, m: Moves, position: u16, r: Rectangle, plane: &[u16], ou
 }
 
 fn edge_rows(l: Layout, m: Moves, a: Step, b: Step, r: Rectangle, plane: &[u16], out: &mut [u16])
-    requires { ⌜ Lent l r (now plane) (now out) × Room m × Near l (stepTo a) r × Near l (stepTo b) r ⌝ }
-    ensures { λ _. ⌜ Written (l .width) (l .height) r (byEdge l m (stepTo a) (stepTo b) (now (plane .entry))) (now (out .entry)) (now (out .exit)) ⌝ }
+    requires { ⌜ Lent l r (now plane) (now out) × Room m × Reach l (stepTo a) r × Reach l (stepTo b) r ⌝ }
+    ensures { λ _. ⌜ Written (l .width) (l .height) r (compared l m (stepTo a) (stepTo b) (now (plane .entry))) (now (out .entry)) (now (out .exit)) ⌝ }
 {
     if r.x0 < r.x1 {
         let mut y = r.y0;
@@ -248,44 +404,119 @@ fn edge_rows(l: Layout, m: Moves, a: Step, b: Step, r: Rectangle, plane: &[u16],
 
 // ---- a block
 
-// By edge: the samples at a picture border as they are, and the inner part by its neighbours.
-fn edge_block(l: Layout, m: Moves, class: u8, r: Rectangle, plane: &[u16], out: &mut [u16])
-    requires { ⌜ Lent l r (now plane) (now out) × (r .x0 < r .x1) × (r .y0 < r .y1) × (class < 4) ⌝ }
-    requires { ⌜ Room m × Under l m r (now plane) ⌝ }
-    ensures { λ _. ⌜ Written (l .width) (l .height) r (byEdge l m (stepsOf class .0) (stepsOf class .1) (now (plane .entry))) (now (out .entry)) (now (out .exit)) ⌝ }
+// Samples whose neighbours may all be compared with them, by edge, or samples that stay.
+fn edge_part(
+    l: Layout,
+    m: Moves,
+    a: Step,
+    b: Step,
+    whole: bool,
+    r: Rectangle,
+    plane: &[u16],
+    out: &mut [u16],
+)
+    requires { ⌜ Lent l r (now plane) (now out) × Room m × (whole ≡ true → Reach l (stepTo a) r × Reach l (stepTo b) r) ⌝ }
+    ensures { λ _. ⌜ Written (l .width) (l .height) r (edgeIf whole l m (stepTo a) (stepTo b) (now (plane .entry))) (now (out .entry)) (now (out .exit)) ⌝ }
 {
-    let a = first_step(class);
-    let b = second_step(class);
-    let i = inner(l, class, r);
-    let above = Rectangle {
-        x0: r.x0,
-        x1: r.x1,
-        y0: r.y0,
-        y1: i.y0,
-    };
-    let left = Rectangle {
-        x0: r.x0,
-        x1: i.x0,
-        y0: i.y0,
-        y1: i.y1,
-    };
-    let right = Rectangle {
-        x0: i.x1,
-        x1: r.x1,
-        y0: i.y0,
-        y1: i.y1,
-    };
-    let below = Rectangle {
-        x0: r.x0,
-        x1: r.x1,
-        y0: i.y1,
-        y1: r.y1,
-    };
-    copy_rows(l, above, plane, out);
-    copy_rows(l, left, plane, out);
-    edge_rows(l, m, a, b, i, plane, out);
-    copy_rows(l, right, plane, out);
-    copy_rows(l, below, plane, out);
+    if whole {
+        edge_rows(l, m, a, b, r, plane, out);
+    } else {
+        copy_rows(l, r, plane, out);
+    }
+}
+
+// Rows y0 up to and without y1 of a block, which are parted alike.
+fn edge_band(
+    l: Layout,
+    m: Moves,
+    class: u8,
+    o: Around,
+    r: Rectangle,
+    y0: usize,
+    y1: usize,
+    plane: &[u16],
+    out: &mut [u16],
+)
+    requires { ⌜ EdgeReady l m class o r (now plane) (now out) ⌝ }
+    requires { ⌜ (r .y0 ≤ y0) × (y0 ≤ y1) × (y1 ≤ r .y1) × Alike o r class y0 y1 ⌝ }
+    ensures { λ _. ⌜ Written (l .width) (l .height) (block (r .x0) (r .x1) y0 y1) (byEdge l (contextFrom r o) m class (now (plane .entry))) (now (out .entry)) (now (out .exit)) ⌝ }
+{
+    if y0 < y1 {
+        let a = first_step(class);
+        let b = second_step(class);
+        let k = runs_of(o, class, r, y0);
+        let left = Rectangle {
+            x0: r.x0,
+            x1: k.c,
+            y0,
+            y1,
+        };
+        let middle = Rectangle {
+            x0: k.c,
+            x1: k.d,
+            y0,
+            y1,
+        };
+        let right = Rectangle {
+            x0: k.d,
+            x1: r.x1,
+            y0,
+            y1,
+        };
+        edge_part(l, m, a, b, k.first, left, plane, out);
+        edge_part(l, m, a, b, k.middle, middle, plane, out);
+        edge_part(l, m, a, b, k.last, right, plane, out);
+    }
+}
+
+// The row before the last, at least t.
+fn last_from(t: usize, y1: usize) -> usize
+    requires { ⌜ t ≤ y1 ⌝ }
+    ensures { λ r. ⌜ r ≡ max t (y1 - 1) ⌝ }
+{
+    if t == y1 { t } else { y1 - 1 }
+}
+
+// By edge: the first row, the rows between and the last.
+fn edge_bands(
+    l: Layout,
+    m: Moves,
+    class: u8,
+    o: Around,
+    r: Rectangle,
+    plane: &[u16],
+    out: &mut [u16],
+)
+    requires { ⌜ EdgeReady l m class o r (now plane) (now out) ⌝ }
+    ensures { λ _. ⌜ Written (l .width) (l .height) r (byEdge l (contextFrom r o) m class (now (plane .entry))) (now (out .entry)) (now (out .exit)) ⌝ }
+{
+    let t = r.y0 + 1;
+    let u = last_from(t, r.y1);
+    edge_band(l, m, class, o, r, r.y0, t, plane, out);
+    edge_band(l, m, class, o, r, t, u, plane, out);
+    edge_band(l, m, class, o, r, u, r.y1, plane, out);
+}
+
+// By edge: where nothing is barred, every row in one piece.
+fn edge_block(
+    l: Layout,
+    m: Moves,
+    class: u8,
+    o: Around,
+    r: Rectangle,
+    plane: &[u16],
+    out: &mut [u16],
+)
+    requires { ⌜ EdgeReady l m class o r (now plane) (now out) ⌝ }
+    ensures { λ _. ⌜ Written (l .width) (l .height) r (byEdge l (contextFrom r o) m class (now (plane .entry))) (now (out .entry)) (now (out .exit)) ⌝ }
+{
+    if all_open(o) {
+        let a = first_step(class);
+        let b = second_step(class);
+        edge_rows(l, m, a, b, r, plane, out);
+    } else {
+        edge_bands(l, m, class, o, r, plane, out);
+    }
 }
 
 // What the offsets of a set do to the samples of a layout.
@@ -297,10 +528,17 @@ fn moves_for(l: Layout, o1: i8, o2: i8, o3: i8, o4: i8) -> Moves
     moves_of(o, l.depth)
 }
 
-// The filter of one block.
-pub fn filter_block(l: Layout, set: Offsets, r: Rectangle, plane: &[u16], out: &mut [u16])
-    requires { ⌜ Ready l set r (now plane) (now out) ⌝ }
-    ensures { λ _. ⌜ Written (l .width) (l .height) r (sample l set (now (plane .entry))) (now (out .entry)) (now (out .exit)) ⌝ }
+// The filter of one block, under every context that the eight answers agree with.
+pub fn filter_block(
+    l: Layout,
+    set: Offsets,
+    o: Around,
+    r: Rectangle,
+    plane: &[u16],
+    out: &mut [u16],
+)
+    requires { ⌜ Ready l set o r (now plane) (now out) ⌝ }
+    ensures { λ _. ⌜ ((context : Context) → Agrees context r o → Written (l .width) (l .height) r (sample l context set (now (plane .entry))) (now (out .entry)) (now (out .exit))) ⌝ }
 {
     match set {
         Offsets::Off => copy_rows(l, r, plane, out),
@@ -322,7 +560,7 @@ pub fn filter_block(l: Layout, set: Offsets, r: Rectangle, plane: &[u16], out: &
             o4,
         } => {
             let m = moves_for(l, o1, o2, o3, o4);
-            edge_block(l, m, class, r, plane, out);
+            edge_block(l, m, class, o, r, plane, out);
         }
     }
 }

@@ -10,7 +10,8 @@ use lib.Seq.{take-at, drop-at}
 use Rattle.standard.specs.declared.Offsets.{Offsets}
 use Rattle.standard.specs.declared.Offsets.the-variants.{Off, Band, Edge}
 use Rattle.standard.specs.declared.CtuSet.{CtuSet}
-use Rattle.standard.specs.Sets.{Switches, Small, Valid}
+use Rattle.standard.specs.declared.Switches.{Switches}
+use Rattle.standard.specs.Sets.{Small, Valid}
 use Rattle.standard.specs.Table.{offsetOf, offsetsBy, encodeOffsets, decodeOffsets, encode, decode}
 use Rattle.standard.proofs.Entries.{ByteOffsets, offsets-back, offsets-length, decode-whole, valid-bytes}
 use Rattle.sets.specs.declared.Six.{Six}

@@ -1,12 +1,13 @@
 -- Bytes put into a list, and read out of it, six by six.
 use mathlib.Core.Path.{_≡_, refl, sym, ap, ap₂, _∙_}
-use mathlib.Core.List.{List, [], _∷_, _++_, append-assoc}
+use mathlib.Core.List.{List, [], _∷_, _++_, append-assoc, append-nil}
 use Prim.Native.Nat.{ℕ, suc, _+_, _*_, _≤_, _<_}
 use native.Mathlib.Omega.{arith}
-use lib.ListN.{length, getD, set, take, drop, length-append}
+use lib.ListN.{length, getD, set, take, drop, length-append, drop-of-length-le}
 use lib.Seq.{sets, sets-eq, take-at, drop-append-add, length-take-le, drop-cons, take-add, drop-drop}
 use Rattle.standard.specs.declared.CtuSet.{CtuSet}
-use Rattle.standard.specs.Table.{encode, entry, entered}
+use Rattle.standard.specs.Table.{setSize, entrySize, encode, entry, entered}
+use Rattle.standard.proofs.Entries.{encode-length, entry-set}
 use Rattle.sets.specs.declared.Six.{Six}
 use Rattle.sets.specs.Entries.{listOf, Coded, put}
 
@@ -50,18 +51,26 @@ module _ (l : List ℕ) (at : ℕ) (x y : List ℕ) (room : at + length x ≤ le
       ∙ ap (λ (w : List ℕ). take at l ++ w) (sym (append-assoc x y (drop (n + length y) l)) ∙ ap (λ (k : ℕ). (x ++ y) ++ drop k l) e)
 
 -- three components, one behind the other
-pub put-three : (l : List ℕ) (at : ℕ) (a b c : Six) → at + 18 ≤ length l
+pub put-three : (l : List ℕ) (at : ℕ) (a b c : Six) → at + setSize ≤ length l
     → put (put (put l at (listOf a)) (at + 6) (listOf b)) (at + 12) (listOf c) ≡ put l at (listOf a ++ (listOf b ++ listOf c))
 put-three l at a b c h =
     ap (λ (w : List ℕ). put w (at + 12) (listOf c)) (put-more l at (listOf a) (listOf b) (omega arith))
     ∙ put-more l at (listOf a ++ listOf b) (listOf c) (omega arith)
 
-pub put-entered : (l : List ℕ) (k : ℕ) (q : CtuSet) (a b c : Six) → 18 * k + 18 ≤ length l → Coded (q .luma) a → Coded (q .cb) b → Coded (q .cr) c
-    → put (put (put l (18 * k) (listOf a)) (18 * k + 6) (listOf b)) (18 * k + 12) (listOf c) ≡ entered l k q
-unfolding entered encode
-put-entered l k q a b c h x y z =
-    put-three l (18 * k) a b c h
-    ∙ ap (λ (w : List ℕ). take (18 * k) l ++ (w ++ drop (18 * k + 18) l)) (ap₂ _++_ (x .bytes) (ap₂ _++_ (y .bytes) (z .bytes)))
+pub put-set : (l : List ℕ) (at : ℕ) (q : CtuSet) (a b c : Six) → at + setSize ≤ length l → Coded (q .luma) a → Coded (q .cb) b → Coded (q .cr) c
+    → put (put (put l at (listOf a)) (at + 6) (listOf b)) (at + 12) (listOf c) ≡ put l at (encode q)
+unfolding encode
+put-set l at q a b c h x y z = put-three l at a b c h ∙ ap (put l at) (ap₂ _++_ (x .bytes) (ap₂ _++_ (y .bytes) (z .bytes)))
+
+-- as an entry of the table, and where there is room for a set only
+pub put-entered : (l : List ℕ) (k : ℕ) (q : CtuSet) → put l (entrySize * k) (encode q) ≡ entered l k q
+unfolding entered
+put-entered l k q =
+    ap (λ (n : ℕ). take (entrySize * k) l ++ (encode q ++ drop (entrySize * k + n) l)) (encode-length q)
+    ∙ ap (λ (e : List ℕ). take (entrySize * k) l ++ (e ++ drop (entrySize * k + entrySize) l)) (sym (entry-set q))
+
+pub put-alone : (l : List ℕ) (q : CtuSet) → length l ≡ setSize → put l 0 (encode q) ≡ encode q
+put-alone l q e = ap (λ (r : List ℕ). encode q ++ r) (drop-of-length-le l {i = 0 + length (encode q)} (omega (arith, encode-length q))) ∙ append-nil (encode q)
 
 -- ---- read
 
@@ -80,11 +89,11 @@ six-read l at h =
     rw (r0, r1, r2, r3, r4, r5) refl
 
 -- an entry is its three components
-pub entry-read : (l : List ℕ) (k : ℕ) → entry l k ≡ take 6 (drop (18 * k) l) ++ (take 6 (drop (18 * k + 6) l) ++ take 6 (drop (18 * k + 12) l))
+pub entry-read : (l : List ℕ) (k : ℕ) → entry l k ≡ take 6 (drop (entrySize * k) l) ++ (take 6 (drop (entrySize * k + 6) l) ++ take 6 (drop (entrySize * k + 12) l))
 unfolding entry
 entry-read l k =
-    let twelve : 18 * k + 6 + 6 ≡ 18 * k + 12 = omega arith in
-    take-add 6 12 (drop (18 * k) l)
-    ∙ ap (λ (w : List ℕ). take 6 (drop (18 * k) l) ++ w)
-    (ap (take 12) (drop-drop 6 (18 * k) l) ∙ take-add 6 6 (drop (18 * k + 6) l)
-    ∙ ap (λ (w : List ℕ). take 6 (drop (18 * k + 6) l) ++ take 6 w) (drop-drop 6 (18 * k + 6) l ∙ ap (λ (n : ℕ). drop n l) twelve))
+    let twelve : entrySize * k + 6 + 6 ≡ entrySize * k + 12 = omega arith in
+    take-add 6 12 (drop (entrySize * k) l)
+    ∙ ap (λ (w : List ℕ). take 6 (drop (entrySize * k) l) ++ w)
+    (ap (take 12) (drop-drop 6 (entrySize * k) l) ∙ take-add 6 6 (drop (entrySize * k + 6) l)
+    ∙ ap (λ (w : List ℕ). take 6 (drop (entrySize * k + 6) l) ++ take 6 w) (drop-drop 6 (entrySize * k + 6) l ∙ ap (λ (n : ℕ). drop n l) twelve))

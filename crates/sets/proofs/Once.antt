@@ -6,9 +6,9 @@ use mathlib.Core.Logic.{inl, inr}
 use Prim.Native.Nat.{ℕ}
 use Rattle.standard.specs.declared.Offsets.{Offsets}
 use Rattle.standard.specs.declared.CtuSet.{CtuSet}
-use Rattle.standard.specs.declared.Picture.{Picture}
-use Rattle.standard.specs.Sets.{Switches, switchesOf, Valid}
-use Rattle.standard.specs.Table.{entered}
+use Rattle.standard.specs.declared.Switches.{Switches}
+use Rattle.standard.specs.Sets.{Valid}
+use Rattle.standard.specs.Table.{encode, entered, offsetsAt}
 use Rattle.standard.specs.Refusals.{Tells}
 use Rattle.standard.proofs.Answers.{one-answer}
 use Rattle.sets.specs.declared.Found.{Found}
@@ -28,11 +28,17 @@ same-offsets-once a b = one-answer (a ≡ b)
 pub same-set-once : (a b : CtuSet) (r r′ : Bool) → Tells (a ≡ b) r → Tells (a ≡ b) r′ → r ≡ r′
 same-set-once a b = one-answer (a ≡ b)
 
-pub is-valid-once : (p : Picture) (q : CtuSet) (r r′ : Bool) → Tells (Valid (switchesOf p) q) r → Tells (Valid (switchesOf p) q) r′ → r ≡ r′
-is-valid-once p q = one-answer (Valid (switchesOf p) q)
+pub is-valid-once : (s : Switches) (q : CtuSet) (r r′ : Bool) → Tells (Valid s q) r → Tells (Valid s q) r′ → r ≡ r′
+is-valid-once s q = one-answer (Valid s q)
 
 pub put-set-once : (table : List ℕ) (k : ℕ) (q : CtuSet) (exit exit′ : List ℕ) → exit ≡ entered table k q → exit′ ≡ entered table k q → exit ≡ exit′
 put-set-once table k q exit exit′ e e′ = e ∙ sym e′
+
+pub offsets-at-once : (table : List ℕ) (k i : ℕ) (r r′ : Offsets) → r ≡ offsetsAt table i k → r′ ≡ offsetsAt table i k → r ≡ r′
+offsets-at-once table k i r r′ e e′ = e ∙ sym e′
+
+pub say-set-once : (q : CtuSet) (exit exit′ : List ℕ) → exit ≡ encode q → exit′ ≡ encode q → exit ≡ exit′
+say-set-once q exit exit′ e e′ = e ∙ sym e′
 
 offsets-said-once : {six : List ℕ} {o o′ : Offsets} → Stands six o → Stands six o′ → o ≡ o′
 offsets-said-once (inl s) (inl s′) = s .1 ∙ sym (s′ .1)
@@ -40,7 +46,7 @@ offsets-said-once (inl s) (inr s′) = absurd (s′ .0 (s .0))
 offsets-said-once (inr s) (inl s′) = absurd (s .0 (s′ .0))
 offsets-said-once (inr s) (inr s′) = s .1 ∙ sym (s′ .1)
 
--- 18 bytes stand for one set
+-- the bytes of a set stand for one set
 pub stands-once : {bytes : List ℕ} {q q′ : CtuSet} → StandsFor bytes q → StandsFor bytes q′ → q ≡ q′
 stands-once s s′ = λ i. record {
   luma = offsets-said-once (s .luma) (s′ .luma) i;

@@ -7,9 +7,9 @@ use native.Mathlib.Omega.{arith}
 use lib.Dec.{eqb}
 use borrow.Author.Tests.{lt-ltb, le-ltb}
 use lib.IntN.{ℤ, natAbs}
-use Rattle.standard.specs.declared.Picture.{Picture}
 use Rattle.standard.specs.declared.Offsets.the-variants.{Off, Band, Edge}
-use Rattle.standard.specs.Sets.{most, switchesOf, NotNegative, NotPositive, Small, Fits, Shares, Ruled}
+use Rattle.standard.specs.declared.Switches.{Switches}
+use Rattle.standard.specs.Sets.{most, NotNegative, NotPositive, Small, Fits, Shares, Ruled}
 use Rattle.standard.specs.Table.{offsetOf, offsetsBy, decodeOffsets}
 use Rattle.standard.specs.Refusals.{Tells}
 use Rattle.standard.proofs.Answers.{tell-same}
@@ -125,25 +125,25 @@ module _ (cb cr : Six) where
 
 -- ---- by the switches
 
-module _ (p : Picture) (luma : Six) (r : Bool) where
+module _ (s : Switches) (luma : Six) (r : Bool) where
   abbrev luma-by : Bool → Type 0
-  luma-by b = Tells (Ruled b (Fits (most (switchesOf p) 0) (says luma)) (says luma ≡ Off)) r
+  luma-by b = Tells (Ruled b (Fits (most s 0) (says luma)) (says luma ≡ Off)) r
 
-  pub luma-on : p .luma ≡ true → Tells (Fits (most (switchesOf p) 0) (says luma)) r → Tells (LumaRuled (switchesOf p) (says luma)) r
+  pub luma-on : s .luma ≡ true → Tells (Fits (most s 0) (says luma)) r → Tells (LumaRuled s (says luma)) r
   luma-on e t = subst luma-by (sym e) t
 
-  pub luma-off : p .luma ≡ false → Tells (says luma ≡ Off) r → Tells (LumaRuled (switchesOf p) (says luma)) r
+  pub luma-off : s .luma ≡ false → Tells (says luma ≡ Off) r → Tells (LumaRuled s (says luma)) r
   luma-off e t = subst luma-by (sym e) t
 
-module _ (p : Picture) (cb cr : Six) (r : Bool) where
+module _ (s : Switches) (cb cr : Six) (r : Bool) where
   abbrev OnRule : Type 0
-  OnRule = Fits (most (switchesOf p) 1) (says cb) × Fits (most (switchesOf p) 2) (says cr) × Shares (says cb) (says cr)
+  OnRule = Fits (most s 1) (says cb) × Fits (most s 2) (says cr) × Shares (says cb) (says cr)
 
   abbrev chroma-by : Bool → Type 0
   chroma-by b = Tells (Ruled b OnRule ((says cb ≡ Off) × (says cr ≡ Off))) r
 
-  pub chroma-on : p .chroma ≡ true → Tells OnRule r → Tells (ChromaRuled (switchesOf p) (says cb) (says cr)) r
+  pub chroma-on : s .chroma ≡ true → Tells OnRule r → Tells (ChromaRuled s (says cb) (says cr)) r
   chroma-on e t = subst chroma-by (sym e) t
 
-  pub chroma-off : p .chroma ≡ false → Tells ((says cb ≡ Off) × (says cr ≡ Off)) r → Tells (ChromaRuled (switchesOf p) (says cb) (says cr)) r
+  pub chroma-off : s .chroma ≡ false → Tells ((says cb ≡ Off) × (says cr ≡ Off)) r → Tells (ChromaRuled s (says cb) (says cr)) r
   chroma-off e t = subst chroma-by (sym e) t

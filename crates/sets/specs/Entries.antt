@@ -8,8 +8,9 @@ use lib.ListN.{length, take, drop}
 use Rattle.standard.specs.declared.Offsets.{Offsets}
 use Rattle.standard.specs.declared.Offsets.the-variants.{Off, Band}
 use Rattle.standard.specs.declared.CtuSet.{CtuSet}
-use Rattle.standard.specs.Sets.{Switches, most, Fits, Shares, Ruled, Valid}
-use Rattle.standard.specs.Table.{encodeOffsets, decodeOffsets, encode, entry, Sound}
+use Rattle.standard.specs.declared.Switches.{Switches}
+use Rattle.standard.specs.Sets.{most, Fits, Shares, Ruled, Valid}
+use Rattle.standard.specs.Table.{encodeOffsets, decodeOffsets, encodeEntry, entry, Sound}
 use Rattle.sets.specs.declared.Six.{Six}
 use Rattle.sets.specs.declared.Found.{Found}
 use Rattle.sets.specs.declared.Found.the-variants.{Set, Bad}
@@ -42,7 +43,7 @@ put l at new = take at l ++ (new ++ drop (at + length new) l)
 
 -- entry k encodes the set, which is within the rules
 pub record Holds (s : Switches) (table : List ℕ) (k : ℕ) (q : CtuSet) : Type 0 where
-  pub bytes : entry table k ≡ encode q
+  pub bytes : entry table k ≡ encodeEntry q
   pub rules : Valid s q
 
 -- what is found in entry k
@@ -50,7 +51,7 @@ abbrev pub Finds : Switches → List ℕ → ℕ → Found → Type 0
 Finds s table k (Set q) = Holds s table k q
 Finds s table k Bad = ¬ Sound s table k
 
--- ---- six bytes, and 18, outside a table
+-- ---- six bytes, and the bytes of a set, outside a table
 
 -- a band at a position that no set within the rules has: what bytes that encode nothing stand for
 abbrev pub Unsaid : Offsets
@@ -63,7 +64,7 @@ Encodes six = six ≡ encodeOffsets (decodeOffsets six)
 abbrev pub Stands : List ℕ → Offsets → Type 0
 Stands six o = (Encodes six × (o ≡ decodeOffsets six)) ⊎ ((¬ Encodes six) × (o ≡ Unsaid))
 
--- the set of 18 bytes, component by component
+-- the set of its bytes, component by component
 pub record StandsFor (bytes : List ℕ) (q : CtuSet) : Type 0 where
   pub luma : Stands (take 6 bytes) (q .luma)
   pub cb : Stands (take 6 (drop 6 bytes)) (q .cb)

@@ -1,16 +1,18 @@
 // A CTU's set compared, judged by the rules, stored in the table and read back. All of it goes over a
 // component's six bytes of the table: offsets are signed only where they become bytes, or bytes them.
 use standard::CtuSet;
+use standard::ENTRY_BYTES;
 use standard::Offsets;
-use standard::Picture;
+use standard::SET_BYTES;
+use standard::Switches;
 ghost use mathlib.Core.Path.{_≡_};
 ghost use mathlib.Core.List.{_++_};
 ghost use Prim.Native.Nat.{_+_, _*_, _≤_};
 ghost use lib.IntN.{natAbs};
 ghost use lib.ListN.{length, take, drop};
 ghost use Rattle.standard.specs.declared.Offsets.the-variants.{Off};
-ghost use Rattle.standard.specs.Sets.{most, switchesOf, Small, EdgeSigns, Fits, Shares, Valid};
-ghost use Rattle.standard.specs.Table.{entrySize, offsetByte, offsetOf, encodeOffsets, encode, entered};
+ghost use Rattle.standard.specs.Sets.{most, Small, EdgeSigns, Fits, Shares, Valid};
+ghost use Rattle.standard.specs.Table.{setSize, entrySize, offsetByte, offsetOf, encodeOffsets, encode, entered, offsetsAt};
 ghost use Rattle.standard.specs.Refusals.{Tells};
 ghost use Rattle.sets.specs.Entries.{listOf, says, setOf, Coded, LumaRuled, ChromaRuled, put, Finds, Stands, StandsFor};
 
@@ -248,10 +250,10 @@ fn is_fit(s: Six, m: u32) -> bool
 }
 
 // The same, at the component's depth.
-fn is_fit_at(p: Picture, component: u8, s: Six) -> bool
-    ensures { λ r. ⌜ Tells (Fits (most (switchesOf p) component) (says s)) r ⌝ }
+fn is_fit_at(s: Switches, component: u8, six: Six) -> bool
+    ensures { λ r. ⌜ Tells (Fits (most s component) (says six)) r ⌝ }
 {
-    is_fit(s, geometry::most_of(p, component))
+    is_fit(six, geometry::most_of(s, component))
 }
 
 // Whether Cr has Cb's type and class.
@@ -270,23 +272,23 @@ fn is_shared(cb: Six, cr: Six) -> bool
     cb.place == cr.place
 }
 
-fn is_luma_ruled(p: Picture, s: Six) -> bool
-    ensures { λ r. ⌜ Tells (LumaRuled (switchesOf p) (says s)) r ⌝ }
+fn is_luma_ruled(s: Switches, luma: Six) -> bool
+    ensures { λ r. ⌜ Tells (LumaRuled s (says luma)) r ⌝ }
 {
-    if p.luma {
-        return is_fit_at(p, 0, s);
+    if s.luma {
+        return is_fit_at(s, 0, luma);
     }
-    is_off(s)
+    is_off(luma)
 }
 
-fn is_chroma_ruled(p: Picture, cb: Six, cr: Six) -> bool
-    ensures { λ r. ⌜ Tells (ChromaRuled (switchesOf p) (says cb) (says cr)) r ⌝ }
+fn is_chroma_ruled(s: Switches, cb: Six, cr: Six) -> bool
+    ensures { λ r. ⌜ Tells (ChromaRuled s (says cb) (says cr)) r ⌝ }
 {
-    if p.chroma {
-        if !is_fit_at(p, 1, cb) {
+    if s.chroma {
+        if !is_fit_at(s, 1, cb) {
             return false;
         }
-        if !is_fit_at(p, 2, cr) {
+        if !is_fit_at(s, 2, cr) {
             return false;
         }
         return is_shared(cb, cr);
@@ -297,18 +299,18 @@ fn is_chroma_ruled(p: Picture, cb: Six, cr: Six) -> bool
     is_off(cr)
 }
 
-fn is_ruled(p: Picture, luma: Six, cb: Six, cr: Six) -> bool
-    ensures { λ r. ⌜ Tells (Valid (switchesOf p) (setOf luma cb cr)) r ⌝ }
+fn is_ruled(s: Switches, luma: Six, cb: Six, cr: Six) -> bool
+    ensures { λ r. ⌜ Tells (Valid s (setOf luma cb cr)) r ⌝ }
 {
-    if !is_luma_ruled(p, luma) {
+    if !is_luma_ruled(s, luma) {
         return false;
     }
-    is_chroma_ruled(p, cb, cr)
+    is_chroma_ruled(s, cb, cr)
 }
 
 // Whether the set is within the rules.
-pub fn is_valid(p: Picture, q: CtuSet) -> bool
-    ensures { λ r. ⌜ Tells (Valid (switchesOf p) q) r ⌝ }
+pub fn is_valid(s: Switches, q: CtuSet) -> bool
+    ensures { λ r. ⌜ Tells (Valid s q) r ⌝ }
 {
     let luma = q.luma;
     let cb = q.cb;
@@ -316,7 +318,7 @@ pub fn is_valid(p: Picture, q: CtuSet) -> bool
     let l = bytes_of(luma);
     let b = bytes_of(cb);
     let r = bytes_of(cr);
-    is_ruled(p, l, b, r)
+    is_ruled(s, l, b, r)
 }
 
 // ---- stored
@@ -333,17 +335,24 @@ fn put_six(table: &mut [u8], at: usize, s: Six)
     table[at + 5] = s.o4;
 }
 
+// The bytes of a set, from a place on.
+fn put_bytes(bytes: &mut [u8], at: usize, q: CtuSet)
+    requires { ⌜ at + setSize ≤ length (now bytes) ⌝ }
+    ensures { λ _. ⌜ now (bytes .exit) ≡ put (now (bytes .entry)) at (encode q) ⌝ }
+{
+    let luma = q.luma;
+    let cb = q.cb;
+    let cr = q.cr;
+    put_six(bytes, at, bytes_of(luma));
+    put_six(bytes, at + 6, bytes_of(cb));
+    put_six(bytes, at + 12, bytes_of(cr));
+}
+
 pub fn put_set(table: &mut [u8], k: usize, q: CtuSet)
     requires { ⌜ entrySize * k + entrySize ≤ length (now table) ⌝ }
     ensures { λ _. ⌜ now (table .exit) ≡ entered (now (table .entry)) k q ⌝ }
 {
-    let to = 18 * k;
-    let luma = q.luma;
-    let cb = q.cb;
-    let cr = q.cr;
-    put_six(table, to, bytes_of(luma));
-    put_six(table, to + 6, bytes_of(cb));
-    put_six(table, to + 12, bytes_of(cr));
+    put_bytes(table, ENTRY_BYTES * k, q);
 }
 
 // ---- read back
@@ -389,18 +398,18 @@ fn are_codes(luma: Six, cb: Six, cr: Six) -> bool
     is_code(cr)
 }
 
-pub fn get_set(p: Picture, table: &[u8], k: usize) -> Found
+pub fn get_set(s: Switches, table: &[u8], k: usize) -> Found
     requires { ⌜ entrySize * k + entrySize ≤ length (now table) ⌝ }
-    ensures { λ r. ⌜ Finds (switchesOf p) (now (table .entry)) k r ⌝ }
+    ensures { λ r. ⌜ Finds s (now (table .entry)) k r ⌝ }
 {
-    let at = 18 * k;
+    let at = ENTRY_BYTES * k;
     let l = get_six(table, at);
     let b = get_six(table, at + 6);
     let r = get_six(table, at + 12);
     if !are_codes(l, b, r) {
         return Found::Bad;
     }
-    if !is_ruled(p, l, b, r) {
+    if !is_ruled(s, l, b, r) {
         return Found::Bad;
     }
     let luma = offsets_of(l);
@@ -409,7 +418,21 @@ pub fn get_set(p: Picture, table: &[u8], k: usize) -> Found
     Found::Set(CtuSet { luma, cb, cr })
 }
 
-// ---- said by 18 bytes alone
+// The set of one component of an entry, as its bytes say it: bytes that encode nothing say something
+// or other.
+pub fn offsets_at(table: &[u8], k: usize, component: u8) -> Offsets
+    requires { ⌜ entrySize * k + entrySize ≤ length (now table) ⌝ }
+    ensures { λ r. ⌜ r ≡ offsetsAt (now (table .entry)) component k ⌝ }
+{
+    let at = ENTRY_BYTES * k;
+    match component {
+        0 => offsets_of(get_six(table, at)),
+        1 => offsets_of(get_six(table, at + 6)),
+        _ => offsets_of(get_six(table, at + 12)),
+    }
+}
+
+// ---- said by the bytes of a set alone
 
 // The component that six bytes encode, or where they encode none one that no set within the rules has.
 fn offsets_said(s: Six) -> Offsets
@@ -427,12 +450,20 @@ fn offsets_said(s: Six) -> Offsets
     }
 }
 
-// The set that the bytes of an entry encode, within the rules or not.
-pub fn set_said(e: &[u8; 18]) -> CtuSet
+// The set that its bytes encode, within the rules or not.
+pub fn set_said(e: &[u8; SET_BYTES]) -> CtuSet
     ensures { λ r. ⌜ StandsFor (now (e .entry)) r ⌝ }
 {
     let luma = offsets_said(get_six(e, 0));
     let cb = offsets_said(get_six(e, 6));
     let cr = offsets_said(get_six(e, 12));
     CtuSet { luma, cb, cr }
+}
+
+// And back: the bytes that encode a set.
+pub fn say_set(e: &mut [u8; SET_BYTES], q: CtuSet)
+    ensures { λ _. ⌜ now (e .exit) ≡ encode q ⌝ }
+    ensures { λ _. ⌜ length (now (e .exit)) ≡ setSize ⌝ }
+{
+    put_bytes(e, 0, q);
 }

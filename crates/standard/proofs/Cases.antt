@@ -1,32 +1,27 @@
 -- Document 01's ten cases, as one table under one statement, proved of the definitions by computation. What is read is stated of `Means`
 -- and of the reader that agrees with it, what is refused of the call's reasons.
 use mathlib.Core.Path.{_≡_, refl}
-use mathlib.Core.Bool.{Bool, true, false}
+use mathlib.Core.Bool.{true, false}
 use mathlib.Core.List.{List, [], _∷_, _++_}
-use mathlib.Core.Option.{none}
-use mathlib.Core.Logic.{Dec·and, Dec·not}
-use Prim.Native.Nat.{ℕ, zero, suc}
-use native.Mathlib.Decide.{ℕ-discrete, decLe, decLt}
-use lib.IntN.{ℤ, pos, negsuc}
+use Prim.Native.Nat.{ℕ}
+use lib.IntN.{pos, negsuc}
 use lib.ListN.{length, replicate}
 use Rattle.standard.specs.declared.Picture.{Picture}
 use Rattle.standard.specs.declared.State.{State}
 use Rattle.standard.specs.declared.Offsets.{Offsets}
 use Rattle.standard.specs.declared.Offsets.the-variants.{Off, Band, Edge}
 use Rattle.standard.specs.declared.CtuSet.{CtuSet}
-use Rattle.standard.specs.Picture.{depthOf, divisors, rectangle, grown, address, leftOf, aboveOf}
 use Rattle.standard.specs.Sets.{largest, switchesOf, allOff}
-use Rattle.standard.specs.Bins.{truncated, fixedLength, magnitudes, signBins, signs, rest, restOfCr, full, bitsOf, binsOf}
-use Rattle.standard.specs.Samples.{shiftOf, layoutOf, offsetVal, clip, bandIdx, stepsOf, sign, edgeIdx, counts, neighbour, edgeIdxOf, kept, bandSample, edgeSample, modified, sample, tabulate, planeBy, filteredPlane}
-use Rattle.standard.specs.Table.{encodeOffsets, encode, entry, decodeOffsets, decode, stored}
+use Rattle.standard.specs.Bins.{truncated, binsOf}
+use Rattle.standard.specs.Samples.{Parameters, neighbour, sample, filteredPlane}
+use Rattle.standard.specs.Table.{entrySize, encodeEntry}
 use Rattle.standard.specs.Refusals.{First, Clear}
 use Rattle.standard.specs.Reasons.{Planes, leftSet, upperSet, MeansHere, readReasons, filterReasons}
-use Rattle.standard.proofs.Codes.{Got, got, short}
-use Rattle.standard.proofs.Reader.{readCtu, heard, hear, got-is-meant}
-use Rattle.standard.proofs.Decisions.{or?, some?, judge, numberIn, IsRefusal, refused-with, accepted}
-use Rattle.standard.proofs.Rasters.{inside?}
-use Rattle.standard.proofs.Judging.{rules?, adjacent?, fits?, same-offsets?, same-set?, valid?, same-bytes?}
-use Rattle.standard.proofs.Refusing.{sound?, readVerdict, filterVerdict}
+use Rattle.standard.proofs.Codes.{got}
+use Rattle.standard.proofs.Reader.{readCtu, got-is-meant}
+use Rattle.standard.proofs.Decisions.{numberIn, IsRefusal, refused-with, accepted}
+use Rattle.standard.proofs.Computing.{definitions}
+use Rattle.standard.proofs.Refusing.{readVerdict, filterVerdict}
 
 -- monochrome, CTB size 16, depth 8, luma on
 abbrev pub mono : ℕ → ℕ → Picture
@@ -42,7 +37,7 @@ ofLuma c = record { luma = c; cb = Off; cr = Off }
 pub record Reads (s : State) (table bytes : List ℕ) (count : ℕ) (q : CtuSet) : Type 0 where
   pub clear : Clear (readReasons s bytes count table)
   pub means : MeansHere s table q (binsOf bytes count)
-  pub read : readCtu (switchesOf (s .picture)) (leftSet s table) (upperSet s table) (binsOf bytes count) ≡ got q []
+  pub read : readCtu (switchesOf s) (leftSet s table) (upperSet s table) (binsOf bytes count) ≡ got q []
 
 -- the bins are refused
 abbrev pub Refuses : State → List ℕ → List ℕ → ℕ → ℕ → Type 0
@@ -53,11 +48,15 @@ abbrev pub one : State
 one = due 16 16 0
 
 abbrev pub empty : List ℕ
-empty = replicate 18 0
+empty = replicate entrySize 0
+
+-- one set for every CTU
+abbrev pub everywhere : CtuSet → Parameters
+everywhere q = record { sets = λ k. q }
 
 -- a row of samples, filtered as a picture one sample high
 abbrev pub filtered : Offsets → List ℕ → List ℕ
-filtered c row = filteredPlane (mono (length row) 1) 0 (λ k. ofLuma c) row
+filtered c row = filteredPlane (mono (length row) 1) (everywhere (ofLuma c)) 0 row
 
 abbrev pub case5 : Offsets
 case5 = Band 30 (pos 0) (negsuc 2) (pos 0) (pos 1)
@@ -96,19 +95,19 @@ pub record Ten : Type 0 where
   pub upper-limit : filtered (Band 31 (pos 7) (pos 0) (pos 0) (pos 0)) (250 ∷ []) ≡ 255 ∷ []
   pub lower-limit : filtered (Band 0 (negsuc 6) (pos 0) (pos 0) (pos 0)) (2 ∷ []) ≡ 0 ∷ []
   -- 9. CTU with a left neighbour: "1" copies it. With both neighbours: "01" copies the upper
-  pub left : Reads (due 32 16 1) (encode A ++ encode allOff) (128 ∷ []) 1 A
-  pub upper : Reads (due 32 32 3) (encode allOff ++ (encode A ++ (encode B ++ encode allOff))) (64 ∷ []) 2 A
+  pub left : Reads (due 32 16 1) (encodeEntry A ++ encodeEntry allOff) (128 ∷ []) 1 A
+  pub upper : Reads (due 32 32 3) (encodeEntry allOff ++ (encodeEntry A ++ (encodeEntry B ++ encodeEntry allOff))) (64 ∷ []) 2 A
   -- 10. 32x16, CTB size 16, both sets in, CTB 0 delivered, CTB 1 not: filtering CTB 0 is refused 10
-  pub waits : First (filterReasons (due 32 16 2) 0 0 (plane 512) (plane 512) (1 ∷ 0 ∷ []) (encode allOff ++ encode allOff)) 10
+  pub waits : First (filterReasons (due 32 16 2) 0 0 (plane 512) (plane 512) (1 ∷ 0 ∷ []) (encodeEntry allOff ++ encodeEntry allOff)) 10
 
 -- ---- the proof
 
 module _ (s : State) (table bytes : List ℕ) (count : ℕ) where
   reads : {q : CtuSet} → ¬ IsRefusal (readVerdict s bytes count table)
-      → readCtu (switchesOf (s .picture)) (leftSet s table) (upperSet s table) (binsOf bytes count) ≡ got q [] → Reads s table bytes count q
+      → readCtu (switchesOf s) (leftSet s table) (upperSet s table) (binsOf bytes count) ≡ got q [] → Reads s table bytes count q
   reads c e = record {
     clear = accepted (readVerdict s bytes count table) c;
-    means = got-is-meant (switchesOf (s .picture)) (leftSet s table) (upperSet s table) (binsOf bytes count) e;
+    means = got-is-meant (switchesOf s) (leftSet s table) (upperSet s table) (binsOf bytes count) e;
     read = e;
   }
 
@@ -116,7 +115,7 @@ module _ (s : State) (table bytes : List ℕ) (count : ℕ) where
   refuses r = refused-with (readVerdict s bytes count table) r
 
 pub ten : Ten
-unfolding truncated largest fixedLength bitsOf binsOf depthOf divisors address leftOf aboveOf shiftOf layoutOf offsetVal clip bandIdx stepsOf sign edgeIdx counts neighbour edgeIdxOf kept bandSample edgeSample modified sample tabulate planeBy filteredPlane encodeOffsets encode entry decodeOffsets decode stored readCtu readVerdict filterVerdict valid? same-bytes? ℕ-discrete decLe decLt
+unfolding definitions
 ten = record {
   magnitude-0 = refl;
   magnitude-3 = refl;
@@ -132,7 +131,7 @@ ten = record {
   edged = refl;
   upper-limit = refl;
   lower-limit = refl;
-  left = reads (due 32 16 1) (encode A ++ encode allOff) (128 ∷ []) 1 (λ h. h) refl;
-  upper = reads (due 32 32 3) (encode allOff ++ (encode A ++ (encode B ++ encode allOff))) (64 ∷ []) 2 (λ h. h) refl;
-  waits = refused-with (filterVerdict (due 32 16 2) 0 0 (plane 512) (plane 512) (1 ∷ 0 ∷ []) (encode allOff ++ encode allOff)) tt;
+  left = reads (due 32 16 1) (encodeEntry A ++ encodeEntry allOff) (128 ∷ []) 1 (λ h. h) refl;
+  upper = reads (due 32 32 3) (encodeEntry allOff ++ (encodeEntry A ++ (encodeEntry B ++ encodeEntry allOff))) (64 ∷ []) 2 (λ h. h) refl;
+  waits = refused-with (filterVerdict (due 32 16 2) 0 0 (plane 512) (plane 512) (1 ∷ 0 ∷ []) (encodeEntry allOff ++ encodeEntry allOff)) tt;
 }

@@ -7,7 +7,8 @@ use Prim.Native.Nat.{ℕ}
 use Rattle.standard.specs.declared.Offsets.{Offsets}
 use Rattle.standard.specs.declared.Offsets.the-variants.{Off}
 use Rattle.standard.specs.declared.CtuSet.{CtuSet}
-use Rattle.standard.specs.Sets.{Switches, most, Fits, Ruled, Valid, allOff}
+use Rattle.standard.specs.declared.Switches.{Switches}
+use Rattle.standard.specs.Sets.{most, Fits, Ruled, Valid, allOff}
 use Rattle.standard.specs.Bins.{when, full}
 use Rattle.standard.specs.Means.{anyOn, notTaken, Means, no-bins, merge-left, merge-up, in-full}
 use Rattle.standard.proofs.Codes.{impossible, Code, Spelled, Empty, IsBit, Then, pure, bit, both, as-code, in-turn, said-of}

@@ -1,7 +1,7 @@
 -- Decisions that compute: of sums, of bounded searches, and of a list of reasons, of which the first that holds is found.
 use mathlib.Core.Path.{_≡_, refl, subst, ap}
 use mathlib.Core.Bool.{Bool, true, false}
-use mathlib.Core.List.{List, [], _∷_}
+use mathlib.Core.List.{List, [], _∷_, _++_}
 use mathlib.Core.Logic.{_⊎_, inl, inr, Dec·and, Dec·not}
 use Prim.Native.Nat.{ℕ, zero, suc, _<_}
 use native.Mathlib.Decide.{ℕ-discrete}
@@ -45,6 +45,11 @@ pub data Verdict (rs : List Reason) : Type 0 where
 abbrev pub Decided : List Reason → Type 0
 Decided [] = Unit {0}
 Decided (r ∷ rs) = Dec (r .holds) × Decided rs
+
+-- of two parts
+abbrev pub both? : (front back : List Reason) → Decided front → Decided back → Decided (front ++ back)
+both? [] back d e = e
+both? (r ∷ rs) back d e = (d .0, both? rs back (d .1) e)
 
 later : {r : Reason} {rs : List Reason} → ¬ r .holds → Verdict rs → Verdict (r ∷ rs)
 later k (refusal n f) = refusal n (inr (k, f))

@@ -13,8 +13,9 @@ use lib.Seq.{take-at, drop-at, take-append-le, drop-append-le, drop-append-add, 
 use Rattle.standard.specs.declared.Offsets.{Offsets}
 use Rattle.standard.specs.declared.Offsets.the-variants.{Off, Band, Edge}
 use Rattle.standard.specs.declared.CtuSet.{CtuSet}
-use Rattle.standard.specs.Sets.{Switches, most, Small, Fits, Shares, Ruled, Valid}
-use Rattle.standard.specs.Table.{offsetByte, offsetOf, encodeOffsets, encode, entry, entered, Sound, decodeOffsets, decode, stored}
+use Rattle.standard.specs.declared.Switches.{Switches}
+use Rattle.standard.specs.Sets.{depthIn, most, Small, Fits, Shares, Ruled, Valid}
+use Rattle.standard.specs.Table.{setSize, entrySize, offsetByte, offsetOf, encodeOffsets, encode, encodeEntry, entry, entered, Sound, decodeOffsets, decode, stored}
 use Rattle.standard.proofs.Depths.{largest-at-most-31}
 
 -- ---- sets whose offsets a byte holds: no magnitude is above 128
@@ -35,7 +36,7 @@ fits-bytes m (Band position o1 o2 o3 o4) h f = omega arith
 fits-bytes m (Edge class o1 o2 o3 o4) h f = omega arith
 
 most-bytes : (s : Switches) (i : ℕ) (c : Offsets) → Fits (most s i) c → ByteOffsets c
-most-bytes s i c f = fits-bytes (most s i) c (omega (arith, largest-at-most-31 (s .depths i))) f
+most-bytes s i c f = fits-bytes (most s i) c (omega (arith, largest-at-most-31 (depthIn s i))) f
 
 off-bytes : (c : Offsets) → c ≡ Off → ByteOffsets c
 off-bytes c e = subst ByteOffsets (sym e) tt
@@ -75,7 +76,7 @@ offsets-length Off = refl
 offsets-length (Band position o1 o2 o3 o4) = refl
 offsets-length (Edge class o1 o2 o3 o4) = refl
 
-pub encode-length : (q : CtuSet) → length (encode q) ≡ 18
+pub encode-length : (q : CtuSet) → length (encode q) ≡ setSize
 unfolding encode
 encode-length q =
     let whole = length-append (encodeOffsets (q .luma)) (encodeOffsets (q .cb) ++ encodeOffsets (q .cr)) in
@@ -123,67 +124,79 @@ decode-whole q h = ap decode (sym (append-nil (encode q))) ∙ decode-encode q h
 pub encode-injective : (p q : CtuSet) → Bytes p → Bytes q → encode p ≡ encode q → p ≡ q
 encode-injective p q hp hq e = sym (decode-whole p hp) ∙ ap decode e ∙ decode-whole q hq
 
+-- ---- an entry
+
+pub entry-set : (q : CtuSet) → encodeEntry q ≡ encode q
+unfolding encodeEntry
+entry-set q = refl
+
+entry-length : (q : CtuSet) → length (encodeEntry q) ≡ entrySize
+entry-length q = ap length (entry-set q) ∙ encode-length q
+
+decode-entry : (q : CtuSet) → Bytes q → decode (encodeEntry q) ≡ q
+decode-entry q h = ap decode (entry-set q) ∙ decode-whole q h
+
 -- ---- a sound entry says its set
 
 pub stored-sound : {s : Switches} {table : List ℕ} {k : ℕ} (sound : Sound s table k) → stored table k ≡ sound .set
 unfolding stored
-stored-sound {s} sound = ap decode (sound .bytes) ∙ decode-whole (sound .set) (valid-bytes s (sound .rules))
+stored-sound {s} sound = ap decode (sound .bytes) ∙ decode-entry (sound .set) (valid-bytes s (sound .rules))
 
 -- ---- a set entered
 
-module _ (table : List ℕ) (k : ℕ) (q : CtuSet) (room : 18 * k + 18 ≤ length table) where
-  front-length : length (take (18 * k) table) ≡ 18 * k
-  front-length = length-take-le (18 * k) table (omega arith)
+module _ (table : List ℕ) (k : ℕ) (q : CtuSet) (room : entrySize * k + entrySize ≤ length table) where
+  front-length : length (take (entrySize * k) table) ≡ entrySize * k
+  front-length = length-take-le (entrySize * k) table (omega arith)
 
   pub entered-length : length (entered table k q) ≡ length table
   unfolding entered
   entered-length =
-      let whole = length-append (take (18 * k) table) (encode q ++ drop (18 * k + 18) table) in
-      let back = length-append (encode q) (drop (18 * k + 18) table) in
-      omega (arith, front-length, encode-length q, length-drop (18 * k + 18) table)
+      let whole = length-append (take (entrySize * k) table) (encodeEntry q ++ drop (entrySize * k + entrySize) table) in
+      let back = length-append (encodeEntry q) (drop (entrySize * k + entrySize) table) in
+      omega (arith, front-length, entry-length q, length-drop (entrySize * k + entrySize) table)
 
-  pub entry-same : entry (entered table k q) k ≡ encode q
+  pub entry-same : entry (entered table k q) k ≡ encodeEntry q
   unfolding entry entered
   entry-same =
-      ap (take 18) (drop-at (take (18 * k) table) (encode q ++ drop (18 * k + 18) table) (18 * k) front-length)
-      ∙ take-at (encode q) (drop (18 * k + 18) table) 18 (encode-length q)
+      ap (take entrySize) (drop-at (take (entrySize * k) table) (encodeEntry q ++ drop (entrySize * k + entrySize) table) (entrySize * k) front-length)
+      ∙ take-at (encodeEntry q) (drop (entrySize * k + entrySize) table) entrySize (entry-length q)
 
   pub stored-same : Bytes q → stored (entered table k q) k ≡ q
   unfolding stored
-  stored-same h = ap decode entry-same ∙ decode-whole q h
+  stored-same h = ap decode entry-same ∙ decode-entry q h
 
   -- an entry before lies in the part in front of k, whatever follows that part
-  before : (j : ℕ) → j < k → (r : List ℕ) → take 18 (drop (18 * j) (take (18 * k) table ++ r)) ≡ take 18 (drop (18 * j) (take (18 * k) table))
+  before : (j : ℕ) → j < k → (r : List ℕ) → take entrySize (drop (entrySize * j) (take (entrySize * k) table ++ r)) ≡ take entrySize (drop (entrySize * j) (take (entrySize * k) table))
   before j h r =
-      ap (take 18) (drop-append-le (18 * j) (take (18 * k) table) r (omega (arith, front-length)))
-      ∙ take-append-le 18 (drop (18 * j) (take (18 * k) table)) r (omega (arith, front-length, length-drop (18 * j) (take (18 * k) table)))
+      ap (take entrySize) (drop-append-le (entrySize * j) (take (entrySize * k) table) r (omega (arith, front-length)))
+      ∙ take-append-le entrySize (drop (entrySize * j) (take (entrySize * k) table)) r (omega (arith, front-length, length-drop (entrySize * j) (take (entrySize * k) table)))
 
   entry-before : (j : ℕ) → j < k → entry (entered table k q) j ≡ entry table j
   unfolding entry entered
   entry-before j h =
-      before j h (encode q ++ drop (18 * k + 18) table) ∙ sym (before j h (drop (18 * k) table))
-      ∙ ap (λ (l : List ℕ). take 18 (drop (18 * j) l)) (take-append-drop (18 * k) table)
+      before j h (encodeEntry q ++ drop (entrySize * k + entrySize) table) ∙ sym (before j h (drop (entrySize * k) table))
+      ∙ ap (λ (l : List ℕ). take entrySize (drop (entrySize * j) l)) (take-append-drop (entrySize * k) table)
 
   -- what comes after is as it was
-  entered-after : (n : ℕ) → drop (18 * k + 18 + n) (entered table k q) ≡ drop (18 * k + 18 + n) table
+  entered-after : (n : ℕ) → drop (entrySize * k + entrySize + n) (entered table k q) ≡ drop (entrySize * k + entrySize + n) table
   unfolding entered
   entered-after n =
-      ap (drop (18 * k + 18 + n)) (sym (append-assoc (take (18 * k) table) (encode q) (drop (18 * k + 18) table)))
-      ∙ ap (λ (m : ℕ). drop (m + n) (head ++ drop (18 * k + 18) table)) (sym head-length)
-      ∙ drop-append-add head (drop (18 * k + 18) table) n
-      ∙ drop-drop n (18 * k + 18) table
+      ap (drop (entrySize * k + entrySize + n)) (sym (append-assoc (take (entrySize * k) table) (encodeEntry q) (drop (entrySize * k + entrySize) table)))
+      ∙ ap (λ (m : ℕ). drop (m + n) (head ++ drop (entrySize * k + entrySize) table)) (sym head-length)
+      ∙ drop-append-add head (drop (entrySize * k + entrySize) table) n
+      ∙ drop-drop n (entrySize * k + entrySize) table
     where
       head : List ℕ
-      head = take (18 * k) table ++ encode q
+      head = take (entrySize * k) table ++ encodeEntry q
 
-      head-length : length head ≡ 18 * k + 18
-      head-length = omega (arith, length-append (take (18 * k) table) (encode q), front-length, encode-length q)
+      head-length : length head ≡ entrySize * k + entrySize
+      head-length = omega (arith, length-append (take (entrySize * k) table) (encodeEntry q), front-length, entry-length q)
 
   entry-after : (j : ℕ) → k < j → entry (entered table k q) j ≡ entry table j
   unfolding entry
   entry-after j h =
-      let e : 18 * k + 18 + (18 * j - (18 * k + 18)) ≡ 18 * j = omega arith in
-      ap (take 18) (rw e at (entered-after (18 * j - (18 * k + 18))))
+      let e : entrySize * k + entrySize + (entrySize * j - (entrySize * k + entrySize)) ≡ entrySize * j = omega arith in
+      ap (take entrySize) (rw e at (entered-after (entrySize * j - (entrySize * k + entrySize))))
 
   pub entry-other : (j : ℕ) → ¬ (j ≡ k) → entry (entered table k q) j ≡ entry table j
   entry-other j other = go (decLt j k)

@@ -12,7 +12,8 @@ use Rattle.standard.specs.declared.Offsets.{Offsets}
 use Rattle.standard.specs.declared.Offsets.the-variants.{Off, Band, Edge}
 use Rattle.standard.specs.declared.CtuSet.{CtuSet}
 use Rattle.standard.specs.Picture.{Side, Rules, columns, ctuCount, Adjacent}
-use Rattle.standard.specs.Sets.{Switches, most, NotNegative, NotPositive, Small, EdgeSigns, Fits, Shares, Ruled, Valid}
+use Rattle.standard.specs.declared.Switches.{Switches}
+use Rattle.standard.specs.Sets.{most, NotNegative, NotPositive, Small, EdgeSigns, Fits, Shares, Ruled, Valid}
 use Rattle.standard.proofs.Decisions.{differ, by-iff, or?}
 
 -- ---- a description

@@ -25,7 +25,12 @@ pub mod Signed
 pub mod Entries
 pub mod Decisions
 pub mod Judging
+pub mod Called
 pub mod Spelling
 pub mod ShortestOne
 pub mod Refusing
+pub mod Clearing
+pub mod Granted
+pub mod Onward
+pub mod Computing
 pub mod Cases

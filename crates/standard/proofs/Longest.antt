@@ -13,7 +13,8 @@ use lib.ListN.{length, length-append}
 use Rattle.standard.specs.declared.Offsets.{Offsets}
 use Rattle.standard.specs.declared.Offsets.the-variants.{Off, Band, Edge}
 use Rattle.standard.specs.declared.CtuSet.{CtuSet}
-use Rattle.standard.specs.Sets.{Switches, largest, most, Fits, Valid}
+use Rattle.standard.specs.declared.Switches.{Switches}
+use Rattle.standard.specs.Sets.{largest, depthIn, most, Fits, Valid}
 use Rattle.standard.specs.Bins.{truncated, fixedLength, magnitudes, signBins, signs, typeBins, rest, restOfCr, when, full}
 use Rattle.standard.specs.Means.{either, notTaken, Means, no-bins, merge-left, merge-up, in-full}
 use Rattle.standard.proofs.Depths.{largest-8, largest-is-31, largest-at-least-7}
@@ -187,7 +188,7 @@ module _ (s : Switches) (luma : s .luma ≡ true) (chroma : s .chroma ≡ true) 
   pub loudest-means : (a b : CtuSet) → Means s (some a) (some b) (loudest s) (longestBins s)
   loudest-means a b = in-full (ap (λ (t : Bool). either t (s .chroma)) luma) loudest-valid refl
 
-  pub longest-length : ((i : ℕ) → i < 3 → 8 ≤ s .depths i) → length (longestBins s) ≡ longest s
+  pub longest-length : ((i : ℕ) → i < 3 → 8 ≤ depthIn s i) → length (longestBins s) ≡ longest s
   longest-length deep =
       let m0 : 1 ≤ most s 0 = omega (arith, largest-at-least-7 (deep 0 (lit< tt))) in
       let m1 : 1 ≤ most s 1 = omega (arith, largest-at-least-7 (deep 1 (lit< tt))) in
@@ -198,12 +199,12 @@ module _ (s : Switches) (luma : s .luma ≡ true) (chroma : s .chroma ≡ true) 
       ap length (when-on (s .chroma) _ chroma) ∙ omega (arith, chroma-length s (loudest s), loud-type (most s 1), loud-rest (most s 1) m1, loud-restOfCr (most s 2) m2) in
       omega (arith, full-parts s (loudest s))
 
-  pub reached : ((i : ℕ) → i < 3 → 8 ≤ s .depths i) → (a b : CtuSet) → (q : CtuSet) × (bins : List Bool) × Means s (some a) (some b) q bins × (length bins ≡ longest s)
+  pub reached : ((i : ℕ) → i < 3 → 8 ≤ depthIn s i) → (a b : CtuSet) → (q : CtuSet) × (bins : List Bool) × Means s (some a) (some b) q bins × (length bins ≡ longest s)
   reached deep a b = (loudest s, longestBins s, loudest-means a b, longest-length deep)
 
 -- ---- where every component has one depth
 
-module _ (s : Switches) (d : ℕ) (same : (i : ℕ) → i < 3 → s .depths i ≡ d) where
+module _ (s : Switches) (d : ℕ) (same : (i : ℕ) → i < 3 → depthIn s i ≡ d) where
   pub longest-at : longest s ≡ 33 + 12 * largest d
   longest-at = omega (arith, ap largest (same 0 (lit< tt)), ap largest (same 1 (lit< tt)), ap largest (same 2 (lit< tt)))
 

@@ -1,8 +1,9 @@
--- A call's reasons are read one way: no two refusals share a number, one number at most is that of the first reason that holds, and none is where no reason holds.
+-- A call's reasons are read one way: no two refusals share a number and none has 0, one number at most is that of the first reason that holds, and none is where no reason holds.
 use mathlib.Core.Path.{_≡_, refl, sym, ap, _∙_}
 use mathlib.Core.List.{List, [], _∷_}
 use mathlib.Core.Logic.{inl, inr}
-use Prim.Native.Nat.{ℕ, _-_}
+use Prim.Native.Nat.{ℕ, zero, suc, _-_, _<_}
+use native.Mathlib.Omega.{arith}
 use lib.ListN.{getD}
 use Rattle.standard.specs.declared.Refusal.{Refusal}
 use Rattle.standard.specs.declared.Refusal.the-variants.{Description, Length, NoSuchBlock, CountTooLarge, TooEarly, BinsRemain, AllRead, SampleTooLarge, DeliveredBefore, NotReady, FilteredBefore, NoBins, NoRoom, Stored}
@@ -36,6 +37,16 @@ refusal-back Stored = refl
 
 pub numberOf-injective : (a b : Refusal) → numberOf a ≡ numberOf b → a ≡ b
 numberOf-injective a b e = sym (refusal-back a) ∙ ap refusalOf e ∙ refusal-back b
+
+positive-at : (r : Refusal) (n : ℕ) → numberOf r ≡ n → 0 < n
+unfolding refusalOf
+positive-at r zero e =
+    let one : numberOf r ≡ 1 = ap numberOf (sym (refusal-back r) ∙ ap refusalOf e) in
+    omega arith
+positive-at r (suc n) e = omega arith
+
+pub number-positive : (r : Refusal) → 0 < numberOf r
+number-positive r = positive-at r (numberOf r) refl
 
 pub first-unique : (rs : List Reason) {m n : ℕ} → First rs m → First rs n → m ≡ n
 first-unique [] f g = absurd f

@@ -1,14 +1,15 @@
 -- The order of reading: every CTU is read once, and a merge reaches a CTU that was read before and is adjacent.
 use mathlib.Core.Path.{_≡_, refl, sym, ap, _∙_}
 use mathlib.Core.Bool.{Bool, true, false, cond}
-use mathlib.Core.Option.{some, none}
+use mathlib.Core.Option.{Option, some, none}
 use Prim.Native.Nat.{ℕ, _+_, _-_, _*_, _/_, _%_, _≤_, _<_}
 use native.Mathlib.Nat.{mod-lt, mod-le, add-mod-right, add-div-right}
 use native.Mathlib.Omega.{arith}
 use borrow.Author.Tests.{ltb-false, eqb-false}
 use lib.Dec.{eqb, ltb}
 use Rattle.standard.specs.declared.Picture.{Picture}
-use Rattle.standard.specs.Picture.{Rules, columns, ctuCount, Adjacent, address, leftOf, aboveOf}
+use Rattle.standard.specs.declared.State.{State}
+use Rattle.standard.specs.Picture.{Rules, columns, ctuCount, Adjacent, address, leftOf, aboveOf, mergeLeft, mergeUp}
 use Rattle.standard.proofs.Rasters.{column-of, row-of, place-of}
 use Rattle.standard.proofs.Grid.{columns-least}
 
@@ -62,15 +63,20 @@ left-place c k j z h =
 above-place : (c k j : ℕ) → 0 < c → j + c ≡ k → (j % c ≡ k % c) × (j / c + 1 ≡ k / c)
 above-place c k j z h = (sym (add-mod-right j c) ∙ ap (λ (n : ℕ). n % c) h, sym (add-div-right j z) ∙ ap (λ (n : ℕ). n / c) h)
 
+-- a CTU that was read before, where there is one
+abbrev pub Before : State → Option ℕ → Type 0
+Before s near = (j : ℕ) → near ≡ some j → (n : ℕ) × (n < s .next) × (j ≡ address (s .picture) n)
+
+module _ (s : State) (rules : Rules (s .picture)) where
+  pub left-before : Before s (mergeLeft s)
+  unfolding mergeLeft address
+  left-before j h = (j, omega (arith, left-is (s .picture) (s .next) j h .1), refl)
+
+  pub up-before : Before s (mergeUp s)
+  unfolding mergeUp address
+  up-before j h = (j, omega (arith, above-is (s .picture) (s .next) j h, columns-least rules), refl)
+
 module _ {p : Picture} (rules : Rules p) {k j : ℕ} (there : k < ctuCount p) where
-  pub left-before : leftOf p (address p k) ≡ some j → (n : ℕ) × (n < k) × (j ≡ address p n)
-  unfolding address
-  left-before h = (j, omega (arith, left-is p k j h .1), refl)
-
-  pub above-before : aboveOf p (address p k) ≡ some j → (n : ℕ) × (n < k) × (j ≡ address p n)
-  unfolding address
-  above-before h = (j, omega (arith, above-is p k j h, columns-least rules), refl)
-
   pub left-adjacent : leftOf p k ≡ some j → Adjacent p k j
   left-adjacent h =
       let i = left-is p k j h in

@@ -11,10 +11,8 @@ use lib.ListN.{length, getD}
 use lib.Seq.{ext-getD}
 use Rattle.standard.specs.declared.Picture.{Picture}
 use Rattle.standard.specs.declared.Rectangle.{Rectangle}
-use Rattle.standard.specs.declared.CtuSet.{CtuSet}
 use Rattle.standard.specs.Picture.{planeWidth, planeHeight, ctbAt, Inside}
-use Rattle.standard.specs.Sets.{componentOf}
-use Rattle.standard.specs.Samples.{layoutOf, at, sample, tabulate, planeBy, filteredPlane}
+use Rattle.standard.specs.Samples.{Parameters, at, tabulate, planeBy, filteredSample, filteredPlane}
 use Rattle.standard.specs.Calls.{Written}
 
 -- ---- the index of a place
@@ -110,19 +108,19 @@ written-unique {w} {h} {r} {f} {a} {b} {c} k m la = same-plane w h (k .long ∙ 
 
 -- ---- the filtered plane
 
-module _ (p : Picture) (i : ℕ) (sets : ℕ → CtuSet) (plane : List ℕ) where
-  pub length-filtered : length (filteredPlane p i sets plane) ≡ planeWidth p i * planeHeight p i
+module _ (p : Picture) (ps : Parameters) (i : ℕ) (plane : List ℕ) where
+  pub length-filtered : length (filteredPlane p ps i plane) ≡ planeWidth p i * planeHeight p i
   unfolding filteredPlane
   length-filtered = length-planeBy (planeWidth p i) (planeHeight p i) _
 
   pub at-filtered : {x y : ℕ} → x < planeWidth p i → y < planeHeight p i
-      → at (filteredPlane p i sets plane) (planeWidth p i) x y ≡ sample (layoutOf p i) (componentOf (sets (ctbAt p i x y)) i) plane x y
+      → at (filteredPlane p ps i plane) (planeWidth p i) x y ≡ filteredSample p ps i (ctbAt p i x y) plane x y
   unfolding filteredPlane
   at-filtered a b = at-planeBy (planeWidth p i) (planeHeight p i) _ a b
 
   -- a plane that has it at each place is it
   pub is-filtered : {a : List ℕ} → length a ≡ planeWidth p i * planeHeight p i
-      → ((x y : ℕ) → x < planeWidth p i → y < planeHeight p i → at a (planeWidth p i) x y ≡ sample (layoutOf p i) (componentOf (sets (ctbAt p i x y)) i) plane x y)
-      → a ≡ filteredPlane p i sets plane
+      → ((x y : ℕ) → x < planeWidth p i → y < planeHeight p i → at a (planeWidth p i) x y ≡ filteredSample p ps i (ctbAt p i x y) plane x y)
+      → a ≡ filteredPlane p ps i plane
   unfolding filteredPlane
   is-filtered la e = is-planeBy (planeWidth p i) (planeHeight p i) _ la e

@@ -7,7 +7,7 @@ use mathlib.Core.Option.{Option, some, none}
 use Rattle.standard.specs.declared.CtuSet.{CtuSet}
 use Rattle.standard.specs.declared.Near.{Near}
 use Rattle.standard.specs.declared.Near.the-variants.{Nothing, Set}
-use Rattle.standard.specs.Sets.{Switches}
+use Rattle.standard.specs.declared.Switches.{Switches}
 use Rattle.standard.specs.Means.{Means, Early, Remain}
 use Rattle.standard.proofs.Codes.{Got, got, short, impossible, never}
 use Rattle.standard.proofs.Ctu.{ctuCode}

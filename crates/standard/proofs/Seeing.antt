@@ -14,12 +14,14 @@ use Rattle.standard.specs.declared.Picture.{Picture}
 use Rattle.standard.specs.declared.Layout.{Layout}
 use Rattle.standard.specs.declared.Offsets.{Offsets}
 use Rattle.standard.specs.declared.Offsets.the-variants.{Off, Band, Edge}
+use Rattle.standard.specs.declared.CtuSet.{CtuSet}
 use Rattle.standard.specs.Picture.{Rules, planeWidth, planeHeight, ctbWidth, ctbHeight, ctuCount, Inside, rectangle, grown, ctbAt, Adjacent}
-use Rattle.standard.specs.Samples.{layoutOf, Step, stepsOf, at, counts, neighbour, kept, modified, sample, IsAt, Sees, Waits}
-use Rattle.standard.proofs.Counting.{counted}
+use Rattle.standard.specs.Sets.{componentOf}
+use Rattle.standard.specs.Samples.{layoutOf, Context, Parameters, counts, kept, contextOf, Step, stepsOf, at, neighbour, modified, sample, filteredSample, IsAt, Sees, Waits, Scans}
+use Rattle.standard.proofs.Counting.{Within, component-within}
 use Rattle.standard.proofs.Rasters.{down}
 use Rattle.standard.proofs.Divisors.{ctb-width, ctb-height}
-use Rattle.standard.proofs.Grid.{ctb-lt, ctb-pair, ctb-inside, around-grown}
+use Rattle.standard.proofs.Grid.{ends, grown-holds, ctb-lt, ctb-pair, ctb-inside, around-grown}
 
 pub itself-seen : (set : Offsets) (x y : ℕ) → Sees set x y x y
 itself-seen Off x y = (refl, refl)
@@ -78,7 +80,7 @@ seen-near (Edge class o1 o2 o3 o4) x y u v e =
     let k = steps-short class in
     ⊎-elim itself-near (⊎-elim (step-near x y u v (stepsOf class .0) (k .0)) (step-near x y u v (stepsOf class .1) (k .1))) e
 
--- ---- and lies in a CTB that is waited for
+-- ---- and lies in a CTB that is waited for, at a place that is looked at
 
 pub self-adjacent : {p : Picture} {k : ℕ} → k < ctuCount p → Adjacent p k k
 self-adjacent l = record { there = l; left = omega arith; right = omega arith; above = omega arith; below = omega arith }
@@ -114,10 +116,12 @@ module _ {p : Picture} (rules : Rules p) (i : ℕ) {k x y u v : ℕ} (own : ctbA
       around-grown p i uw vh ((omega arith, omega arith), (omega arith, omega arith))
 
   pub seen-waited : (set : Offsets) → Sees set x y u v → Waits p set k (ctbAt p i u v)
+  unfolding Waits
   seen-waited set e = near-adjacent (seen-near set x y u v e)
 
-  pub seen-grown : (set : Offsets) → Sees set x y u v → Inside (grown p i (rectangle p i k)) u v
-  seen-grown set e = near-grown (seen-near set x y u v e)
+  pub seen-scanned : (set : Offsets) → Sees set x y u v → Scans p i set k u v
+  unfolding Scans
+  seen-scanned set e = near-grown (seen-near set x y u v e)
 
 -- ---- and is all that counts
 
@@ -125,11 +129,11 @@ module _ {p : Picture} (rules : Rules p) (i : ℕ) {k x y u v : ℕ} (own : ctbA
 abbrev pub SameAt : ℕ → ℕ → (ℕ → ℕ → Type 0) → List ℕ → List ℕ → Type 0
 SameAt w h S a b = (u v : ℕ) → u < w → v < h → S u v → at a w u v ≡ at b w u v
 
-module _ (l : Layout) where
+module _ (l : Layout) (context : Context) (within : Within l context) where
   module _ (a b : List ℕ) where
-    neighbour-same : (x y : ℕ) (s : Step) → SameAt (l .width) (l .height) (IsAt (pos x +ℤ s .h) (pos y +ℤ s .v)) a b → neighbour l a x y s ≡ neighbour l b x y s
+    neighbour-same : (x y : ℕ) (s : Step) → SameAt (l .width) (l .height) (IsAt (pos x +ℤ s .h) (pos y +ℤ s .v)) a b → neighbour l context a x y s ≡ neighbour l context b x y s
     unfolding neighbour
-    neighbour-same x y s same = go (counts l x y X Y) refl
+    neighbour-same x y s same = go (context .counts x y X Y) refl
       where
         X : ℤ
         X = pos x +ℤ s .h
@@ -137,13 +141,13 @@ module _ (l : Layout) where
         Y : ℤ
         Y = pos y +ℤ s .v
 
-        go : (t : Bool) → counts l x y X Y ≡ t
+        go : (t : Bool) → context .counts x y X Y ≡ t
             → cond t (some (at a (l .width) (natAbs X) (natAbs Y))) none ≡ cond t (some (at b (l .width) (natAbs X) (natAbs Y))) none
-        go true e = let c = counted l x y X Y e in ap some (same (natAbs X) (natAbs Y) (c .0) (c .1) (c .2))
+        go true e = let c = within x y X Y e in ap some (same (natAbs X) (natAbs Y) (c .0) (c .1) (c .2))
         go false e = refl
 
     modified-sees : (set : Offsets) (x y : ℕ) → at a (l .width) x y ≡ at b (l .width) x y → SameAt (l .width) (l .height) (Sees set x y) a b
-        → modified l set a x y ≡ modified l set b x y
+        → modified l context set a x y ≡ modified l context set b x y
     unfolding modified
     modified-sees Off x y here same = here
     modified-sees (Band position o1 o2 o3 o4) x y here same = rw here
@@ -153,14 +157,68 @@ module _ (l : Layout) where
         rw (here, one, two)
 
     pub sample-sees : (set : Offsets) {x y : ℕ} → x < l .width → y < l .height → SameAt (l .width) (l .height) (Sees set x y) a b
-        → sample l set a x y ≡ sample l set b x y
+        → sample l context set a x y ≡ sample l context set b x y
     unfolding sample
     sample-sees set {x} {y} xw yh same =
         let here = same x y xw yh (itself-seen set x y) in
-        ap₂ (cond (kept l x y)) here (modified-sees set x y here same)
+        ap₂ (cond (context .kept x y)) here (modified-sees set x y here same)
 
 -- the same of component i of a picture
-pub component-sees : (p : Picture) (i : ℕ) (a b : List ℕ) (set : Offsets) {x y : ℕ} → x < planeWidth p i → y < planeHeight p i
-    → SameAt (planeWidth p i) (planeHeight p i) (Sees set x y) a b → sample (layoutOf p i) set a x y ≡ sample (layoutOf p i) set b x y
+pub component-sees : (p : Picture) (ps : Parameters) (i : ℕ) (a b : List ℕ) (set : Offsets) {x y : ℕ} → x < planeWidth p i → y < planeHeight p i
+    → SameAt (planeWidth p i) (planeHeight p i) (Sees set x y) a b → sample (layoutOf p i) (contextOf p ps i) set a x y ≡ sample (layoutOf p i) (contextOf p ps i) set b x y
 unfolding layoutOf
-component-sees p i a b set xw yh same = sample-sees (layoutOf p i) a b set xw yh same
+component-sees p ps i a b set xw yh same = sample-sees (layoutOf p i) (contextOf p ps i) (component-within p ps i) a b set xw yh same
+
+-- ---- and of the parameters, those of its own CTU
+
+-- parameters that are the same for the filter of CTB k of component i
+abbrev pub SameFor : Picture → ℕ → ℕ → Parameters → Parameters → Type 0
+SameFor p i k a b = a .sets k ≡ b .sets k
+
+pub filtered-same : (p : Picture) (a b : Parameters) (i k : ℕ) (plane : List ℕ) (x y : ℕ) → SameFor p i k a b → Inside (rectangle p i k) x y
+    → filteredSample p a i k plane x y ≡ filteredSample p b i k plane x y
+unfolding counts kept
+filtered-same p a b i k plane x y same h = ap (λ (q : CtuSet). sample (layoutOf p i) (contextOf p a i) (componentOf q i) plane x y) same
+
+-- ---- what is waited for, and what is looked at
+
+pub waits-itself : (p : Picture) (set : Offsets) {k : ℕ} → k < ctuCount p → Waits p set k k
+unfolding Waits
+waits-itself p set l = self-adjacent l
+
+-- whatever the set, what is adjacent and nothing else
+pub waits-adjacent : (p : Picture) (set : Offsets) (k j : ℕ) → Waits p set k j → Adjacent p k j
+unfolding Waits
+waits-adjacent p set k j w = w
+
+pub adjacent-waits : (p : Picture) (set : Offsets) (k j : ℕ) → Adjacent p k j → Waits p set k j
+unfolding Waits
+adjacent-waits p set k j a = a
+
+pub waits-there : (p : Picture) (set : Offsets) (k j : ℕ) → Waits p set k j → j < ctuCount p
+unfolding Waits
+waits-there p set k j w = w .there
+
+-- whatever the set, the CTB and one sample around it
+pub scans-grown : (p : Picture) (i : ℕ) (set : Offsets) (k x y : ℕ) → Scans p i set k x y → Inside (grown p i (rectangle p i k)) x y
+unfolding Scans
+scans-grown p i set k x y h = h
+
+pub grown-scans : (p : Picture) (i : ℕ) (set : Offsets) (k x y : ℕ) → Inside (grown p i (rectangle p i k)) x y → Scans p i set k x y
+unfolding Scans
+grown-scans p i set k x y h = h
+
+module _ {p : Picture} (rules : Rules p) (i : ℕ) (set : Offsets) {k : ℕ} (there : k < ctuCount p) {x y : ℕ} where
+  pub scans-itself : Inside (rectangle p i k) x y → Scans p i set k x y
+  unfolding Scans
+  scans-itself h =
+      let e = ends rules i there in
+      let g = grown-holds p i {r = rectangle p i k} (e .right) (e .bottom) in
+      ((omega (arith, g .left, h .0 .0), omega (arith, g .right, h .0 .1)), (omega (arith, g .top, h .1 .0), omega (arith, g .bottom, h .1 .1)))
+
+  pub scans-there : Scans p i set k x y → (x < planeWidth p i) × (y < planeHeight p i)
+  unfolding Scans
+  scans-there h =
+      let e = ends rules i there in
+      let g = grown-holds p i {r = rectangle p i k} (e .right) (e .bottom) in
+      (omega (arith, g .width, h .0 .1), omega (arith, g .height, h .1 .1))

@@ -7,7 +7,7 @@ use Prim.Native.Nat.{suc, _+_, _≤_}
 use native.Mathlib.Omega.{arith}
 use lib.ListN.{length, length-append}
 use Rattle.standard.specs.declared.CtuSet.{CtuSet}
-use Rattle.standard.specs.Sets.{Switches}
+use Rattle.standard.specs.declared.Switches.{Switches}
 use Rattle.standard.specs.Bins.{full}
 use Rattle.standard.specs.Means.{anyOn, notTaken, Means, no-bins, merge-left, merge-up, in-full, Shortest}
 use Rattle.standard.proofs.Ctu.{clash}

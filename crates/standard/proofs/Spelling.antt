@@ -9,7 +9,8 @@ use lib.ListN.{length, length-append}
 use Rattle.standard.specs.declared.Offsets.{Offsets}
 use Rattle.standard.specs.declared.Offsets.the-variants.{Off, Band, Edge}
 use Rattle.standard.specs.declared.CtuSet.{CtuSet}
-use Rattle.standard.specs.Sets.{Switches, most, Valid, allOff}
+use Rattle.standard.specs.declared.Switches.{Switches}
+use Rattle.standard.specs.Sets.{most, Valid, allOff}
 use Rattle.standard.specs.Bins.{truncated, typeBins, rest, restOfCr, when, full}
 use Rattle.standard.specs.Means.{either, anyOn, notTaken, Means, no-bins, merge-left, merge-up, in-full, Shortest}
 use Rattle.standard.proofs.Ctu.{clash}

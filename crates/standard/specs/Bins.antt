@@ -8,7 +8,8 @@ use lib.ListN.{length, take, drop}
 use Rattle.standard.specs.declared.Offsets.{Offsets}
 use Rattle.standard.specs.declared.Offsets.the-variants.{Off, Band, Edge}
 use Rattle.standard.specs.declared.CtuSet.{CtuSet}
-use Rattle.standard.specs.Sets.{Switches, most}
+use Rattle.standard.specs.declared.Switches.{Switches}
+use Rattle.standard.specs.Sets.{most}
 
 -- truncated Rice, with no suffix: that many ones and then a zero, except that the largest is all ones
 unfoldable pub truncated : ℕ → ℕ → List Bool

@@ -8,11 +8,10 @@ use Rattle.standard.specs.declared.Picture.{Picture}
 use Rattle.standard.specs.declared.State.{State}
 use Rattle.standard.specs.declared.Rectangle.{Rectangle}
 use Rattle.standard.specs.declared.CtuSet.{CtuSet}
-use Rattle.standard.specs.Picture.{planeWidth, planeHeight, columns, rows, ctbHeight, Inside, rectangle}
-use Rattle.standard.specs.Sets.{componentOf}
-use Rattle.standard.specs.Samples.{layoutOf, at, sample}
-use Rattle.standard.specs.Table.{stored, entered}
-use Rattle.standard.specs.Reasons.{Planes, planeOf, markCount, markPlace, markOf, due}
+use Rattle.standard.specs.Picture.{planeWidth, planeHeight, columns, rows, ctbHeight, Inside, rectangle, due}
+use Rattle.standard.specs.Samples.{at, filteredSample}
+use Rattle.standard.specs.Table.{entered, parametersIn}
+use Rattle.standard.specs.Reasons.{Planes, planeOf, markCount, markPlace, markOf}
 
 -- open: marks 0, next CTU 0
 abbrev pub openedMarks : State → List ℕ
@@ -52,7 +51,7 @@ Delivered s i k samples before after = BlockWritten (s .picture) i k (delivered 
 -- filter: the standard's samples of the CTU's set, and mark 2
 abbrev pub Filtered : State → ℕ → ℕ → List ℕ → Planes → Planes → Planes → Type 0
 Filtered s i k table deblocked before after =
-    BlockWritten (s .picture) i k (sample (layoutOf (s .picture) i) (componentOf (stored table k) i) (planeOf deblocked i)) before after
+    BlockWritten (s .picture) i k (filteredSample (s .picture) (parametersIn table) i k (planeOf deblocked i)) before after
 
 -- finished rows: those before the first CTB row that has an unfiltered CTB, or all of them
 pub record FinishedRows (s : State) (i : ℕ) (marks : List ℕ) (n : ℕ) : Type 0 where

@@ -6,7 +6,8 @@ use mathlib.Core.Option.{Option, some, none}
 use Prim.Native.Nat.{ℕ, _≤_}
 use lib.ListN.{length}
 use Rattle.standard.specs.declared.CtuSet.{CtuSet}
-use Rattle.standard.specs.Sets.{Switches, Valid, allOff}
+use Rattle.standard.specs.declared.Switches.{Switches}
+use Rattle.standard.specs.Sets.{Valid, allOff}
 use Rattle.standard.specs.Bins.{full}
 
 abbrev pub either : Bool → Bool → Bool

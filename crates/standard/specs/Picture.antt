@@ -7,6 +7,7 @@ use mathlib.Core.Option.{Option, some, none}
 use Prim.Native.Nat.{ℕ, zero, suc, _+_, _-_, _*_, _/_, _%_, _≤_, _<_, min}
 use lib.Dec.{eqb, ltb}
 use Rattle.standard.specs.declared.Picture.{Picture}
+use Rattle.standard.specs.declared.State.{State}
 use Rattle.standard.specs.declared.Rectangle.{Rectangle}
 
 -- ---- the rules of a description
@@ -99,9 +100,20 @@ pub record Adjacent (p : Picture) (k j : ℕ) : Type 0 where
 unfoldable pub address : Picture → ℕ → ℕ
 address p k = k
 
--- the CTU that a merge of CTU k to the left reaches, and that a merge upwards does
+-- the CTU that is due
+abbrev pub due : State → ℕ
+due s = address (s .picture) (s .next)
+
+-- the CTU left of CTU k, and the one above it
 unfoldable pub leftOf : Picture → ℕ → Option ℕ
 leftOf p k = cond (eqb (k % columns p) 0) none (some (k - 1))
 
 unfoldable pub aboveOf : Picture → ℕ → Option ℕ
 aboveOf p k = cond (ltb k (columns p)) none (some (k - columns p))
+
+-- the CTU that a merge to the left of the CTU that is due may reach, and that a merge upwards may
+unfoldable pub mergeLeft : State → Option ℕ
+mergeLeft s = leftOf (s .picture) (due s)
+
+unfoldable pub mergeUp : State → Option ℕ
+mergeUp s = aboveOf (s .picture) (due s)

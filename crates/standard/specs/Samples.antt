@@ -14,7 +14,7 @@ use Rattle.standard.specs.declared.Offsets.{Offsets}
 use Rattle.standard.specs.declared.Offsets.the-variants.{Off, Band, Edge}
 use Rattle.standard.specs.declared.CtuSet.{CtuSet}
 use Rattle.standard.specs.declared.Layout.{Layout}
-use Rattle.standard.specs.Picture.{depthOf, planeWidth, planeHeight, ctbAt, Adjacent}
+use Rattle.standard.specs.Picture.{depthOf, planeWidth, planeHeight, Inside, rectangle, grown, ctbAt, Adjacent}
 use Rattle.standard.specs.Sets.{componentOf}
 
 -- ---- offsets
@@ -78,18 +78,40 @@ edgeIdx (negsuc n) = 0
 abbrev pub at : List ℕ → ℕ → ℕ → ℕ → ℕ
 at plane w x y = getD plane (y * w + x) 0
 
--- whether the sample at column u of row v may be compared with that at column x of row y: inside the picture
-unfoldable pub counts : Layout → ℕ → ℕ → ℤ → ℤ → Bool
-counts l x y (pos u) (pos v) = ltb u (l .width) && ltb v (l .height)
-counts l x y (pos u) (negsuc v) = false
-counts l x y (negsuc u) v = false
+-- what the picture says of each sample of a component, besides its layout
+pub record Context : Type 0 where
+  -- counts x y u v: the sample at column x of row y may be compared with that at column u of row v, which may lie outside the picture
+  pub counts : ℕ → ℕ → ℤ → ℤ → Bool
+  -- kept x y: the sample at column x of row y keeps its deblocked value whatever its set says
+  pub kept : ℕ → ℕ → Bool
+
+-- column u of row v is in a plane of w by h
+unfoldable pub inPicture : ℕ → ℕ → ℤ → ℤ → Bool
+inPicture w h (pos u) (pos v) = ltb u w && ltb v h
+inPicture w h (pos u) (negsuc v) = false
+inPicture w h (negsuc u) v = false
+
+-- what a picture is filtered by, besides its description and its deblocked planes: the set of each CTU
+pub record Parameters : Type 0 where
+  pub sets : ℕ → CtuSet
+
+-- of component i of a picture: the sample at column x of row y may be compared with every sample inside the picture
+unfoldable pub counts : Picture → Parameters → ℕ → ℕ → ℕ → ℤ → ℤ → Bool
+counts p ps i x y u v = inPicture (planeWidth p i) (planeHeight p i) u v
+
+-- and no sample is kept
+unfoldable pub kept : Picture → Parameters → ℕ → ℕ → ℕ → Bool
+kept p ps i x y = false
+
+abbrev pub contextOf : Picture → Parameters → ℕ → Context
+contextOf p ps i = record { counts = counts p ps i; kept = kept p ps i }
 
 -- the neighbour a step away, where it counts (and then has no coordinate below 0)
-unfoldable pub neighbour : Layout → List ℕ → ℕ → ℕ → Step → Option ℕ
-neighbour l plane x y step =
+unfoldable pub neighbour : Layout → Context → List ℕ → ℕ → ℕ → Step → Option ℕ
+neighbour l context plane x y step =
     let u = pos x +ℤ step .h in
     let v = pos y +ℤ step .v in
-    cond (counts l x y u v) (some (at plane (l .width) (natAbs u) (natAbs v))) none
+    cond (context .counts x y u v) (some (at plane (l .width) (natAbs u) (natAbs v))) none
 
 -- a comparison with a sample that does not count gives edgeIdx 0
 unfoldable pub edgeIdxOf : ℕ → Option ℕ → Option ℕ → ℕ
@@ -98,10 +120,6 @@ edgeIdxOf s (some a) none = 0
 edgeIdxOf s none b = 0
 
 -- ---- the filtered sample
-
--- a sample that keeps its deblocked value whatever its set says: none
-unfoldable pub kept : Layout → ℕ → ℕ → Bool
-kept l x y = false
 
 -- a sample s by its band
 unfoldable pub bandSample : ℕ → ℕ → ℕ → ℤ → ℤ → ℤ → ℤ → ℕ → ℕ
@@ -112,17 +130,17 @@ unfoldable pub edgeSample : ℕ → ℕ → ℤ → ℤ → ℤ → ℤ → ℕ 
 edgeSample depth shift o1 o2 o3 o4 s a b = clip depth (pos s +ℤ offsetVal shift o1 o2 o3 o4 (edgeIdxOf s a b))
 
 -- the sample at column x of row y, as its set says
-unfoldable pub modified : Layout → Offsets → List ℕ → ℕ → ℕ → ℕ
-modified l Off plane x y = at plane (l .width) x y
-modified l (Band position o1 o2 o3 o4) plane x y = bandSample (l .depth) (l .shift) position o1 o2 o3 o4 (at plane (l .width) x y)
-modified l (Edge class o1 o2 o3 o4) plane x y =
+unfoldable pub modified : Layout → Context → Offsets → List ℕ → ℕ → ℕ → ℕ
+modified l context Off plane x y = at plane (l .width) x y
+modified l context (Band position o1 o2 o3 o4) plane x y = bandSample (l .depth) (l .shift) position o1 o2 o3 o4 (at plane (l .width) x y)
+modified l context (Edge class o1 o2 o3 o4) plane x y =
     edgeSample (l .depth) (l .shift) o1 o2 o3 o4 (at plane (l .width) x y)
-    (neighbour l plane x y (stepsOf class .0))
-    (neighbour l plane x y (stepsOf class .1))
+    (neighbour l context plane x y (stepsOf class .0))
+    (neighbour l context plane x y (stepsOf class .1))
 
 -- THE FILTERED SAMPLE
-unfoldable pub sample : Layout → Offsets → List ℕ → ℕ → ℕ → ℕ
-sample l set plane x y = cond (kept l x y) (at plane (l .width) x y) (modified l set plane x y)
+unfoldable pub sample : Layout → Context → Offsets → List ℕ → ℕ → ℕ → ℕ
+sample l context set plane x y = cond (context .kept x y) (at plane (l .width) x y) (modified l context set plane x y)
 
 -- ---- the whole picture
 
@@ -134,9 +152,13 @@ tabulate (suc n) f = f 0 ∷ tabulate n (λ k. f (suc k))
 unfoldable pub planeBy : ℕ → ℕ → (ℕ → ℕ → ℕ) → List ℕ
 planeBy w h f = tabulate (w * h) (λ n. f (n % w) (n / w))
 
--- THE FILTERED PLANE of component i, of the sets of all CTUs and the whole deblocked plane
-unfoldable pub filteredPlane : Picture → ℕ → (ℕ → CtuSet) → List ℕ → List ℕ
-filteredPlane p i sets plane = planeBy (planeWidth p i) (planeHeight p i) (λ x y. sample (layoutOf p i) (componentOf (sets (ctbAt p i x y)) i) plane x y)
+-- the sample at column x of row y of component i, in CTB k
+abbrev pub filteredSample : Picture → Parameters → ℕ → ℕ → List ℕ → ℕ → ℕ → ℕ
+filteredSample p ps i k plane x y = sample (layoutOf p i) (contextOf p ps i) (componentOf (ps .sets k) i) plane x y
+
+-- THE FILTERED PLANE of component i, of the picture's parameters and the whole deblocked plane
+unfoldable pub filteredPlane : Picture → Parameters → ℕ → List ℕ → List ℕ
+filteredPlane p ps i plane = planeBy (planeWidth p i) (planeHeight p i) (λ x y. filteredSample p ps i (ctbAt p i x y) plane x y)
 
 -- ---- what a sample is made from, and what its block waits for
 
@@ -152,5 +174,9 @@ Sees (Edge class o1 o2 o3 o4) x y u v =
     ⊎ (IsAt (pos x +ℤ stepsOf class .0 .h) (pos y +ℤ stepsOf class .0 .v) u v ⊎ IsAt (pos x +ℤ stepsOf class .1 .h) (pos y +ℤ stepsOf class .1 .v) u v)
 
 -- the filter of CTB k waits for CTB j: whatever the set, for the CTB itself and its up to eight neighbours
-abbrev pub Waits : Picture → Offsets → ℕ → ℕ → Type 0
+unfoldable pub Waits : Picture → Offsets → ℕ → ℕ → Type 0
 Waits p set k j = Adjacent p k j
+
+-- and looks, in component i, at the deblocked sample at column x of row y: whatever the set, at those of the CTB and one sample around it, inside the picture
+unfoldable pub Scans : Picture → ℕ → Offsets → ℕ → ℕ → ℕ → Type 0
+Scans p i set k x y = Inside (grown p i (rectangle p i k)) x y

@@ -4,6 +4,8 @@ use mathlib.Core.Bool.{Bool, true, false}
 use Prim.Native.Nat.{ℕ, zero, suc, _-_, _^_, _≤_, _<_, min}
 use lib.IntN.{ℤ, pos, negsuc, natAbs}
 use Rattle.standard.specs.declared.Picture.{Picture}
+use Rattle.standard.specs.declared.State.{State}
+use Rattle.standard.specs.declared.Switches.{Switches}
 use Rattle.standard.specs.declared.Offsets.{Offsets}
 use Rattle.standard.specs.declared.Offsets.the-variants.{Off, Band, Edge}
 use Rattle.standard.specs.declared.CtuSet.{CtuSet}
@@ -13,18 +15,22 @@ use Rattle.standard.specs.Picture.{depthOf}
 unfoldable pub largest : ℕ → ℕ
 largest depth = 2 ^ (min depth 10 - 5) - 1
 
--- what a CTU's syntax depends on: slice_sao_luma_flag, slice_sao_chroma_flag, and each component's depth
-pub record Switches : Type 0 where
-  pub luma : Bool
-  pub chroma : Bool
-  pub depths : ℕ → ℕ
+-- what the syntax of a CTU depends on: slice_sao_luma_flag, slice_sao_chroma_flag, and each component's depth
+unfoldable pub switchesIn : Picture → Switches
+switchesIn p = record { luma = p .luma; chroma = p .chroma; y = depthOf p 0; cb = depthOf p 1; cr = depthOf p 2 }
 
-abbrev pub switchesOf : Picture → Switches
-switchesOf p = record { luma = p .luma; chroma = p .chroma; depths = depthOf p }
+-- that of the CTU that is due
+unfoldable pub switchesOf : State → Switches
+switchesOf s = switchesIn (s .picture)
+
+abbrev pub depthIn : Switches → ℕ → ℕ
+depthIn s zero = s .y
+depthIn s (suc zero) = s .cb
+depthIn s (suc (suc i)) = s .cr
 
 -- M of a component
 abbrev pub most : Switches → ℕ → ℕ
-most s i = largest (s .depths i)
+most s i = largest (depthIn s i)
 
 abbrev pub NotNegative : ℤ → Type 0
 NotNegative (pos n) = Unit {0}

@@ -78,6 +78,21 @@ pub enum Near {
     Set(CtuSet),
 }
 
+// What the bins of a CTU and the rules of its set depend on: the two switches, and the bit depth of
+// each component, which decides M.
+pub struct Switches {
+    pub luma: bool,
+    pub chroma: bool,
+    pub y: u32,
+    pub cb: u32,
+    pub cr: u32,
+}
+
+// How many bytes a set has where it crosses in a call, and how many an entry of the table has.
+pub const SET_BYTES: usize = 18;
+
+pub const ENTRY_BYTES: usize = SET_BYTES;
+
 // Why a call is refused. `numberOf` in specs/Refusals gives each its number in document 01.
 pub enum Refusal {
     Description,

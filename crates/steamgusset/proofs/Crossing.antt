@@ -1,19 +1,16 @@
--- How an answer crosses: what an inner call refuses is refused with its number, and what it does is done. Then lists of numbers, the test of
--- a switch, and the bytes of a set that stand alone.
+-- How an answer crosses: what an inner call refuses is refused with its number, and what it does is done. Then lists of numbers, and the test of
+-- a switch.
 use mathlib.Core.Bool.{not}
-use mathlib.Core.List.{List, _∷_, _++_, append-nil}
+use mathlib.Core.List.{List, _∷_}
 use mathlib.Core.Logic.{inl, inr}
 use mathlib.Core.Path.{_≡_, refl, sym, ap, ap₂, _∙_, subst}
 use Prim.Native.Nat.{ℕ, zero, suc, _-_}
 use native.Mathlib.Omega.{arith}
 use borrow.Author.Tests.{ne-eqb}
 use lib.Dec.{eqb}
-use lib.ListN.{length, drop-of-length-le}
-use Rattle.standard.specs.declared.CtuSet.{CtuSet}
 use Rattle.standard.specs.declared.Refusal.{Refusal}
-use Rattle.standard.specs.declared.Refusal.the-variants.{Description, Length, NoSuchBlock, CountTooLarge, TooEarly, BinsRemain, AllRead, SampleTooLarge, DeliveredBefore, NotReady, FilteredBefore, NoBins, NoRoom, Stored}
-use Rattle.standard.specs.Table.{encode, entered}
 use Rattle.standard.specs.Refusals.{numberOf, Reason, First, Clear}
+use Rattle.standard.proofs.Numbers.{number-positive}
 use Rattle.steamgusset.specs.Boundary.{isOn, Held}
 use Rattle.steamgusset.specs.Exports.{Answers}
 
@@ -25,22 +22,8 @@ use Rattle.steamgusset.specs.Exports.{Answers}
 pub unheld : {a : List ℕ} {before : Type 0} (reasons : List Reason) (done : Type 0) → ¬ Held a → before → Answers a reasons 1 done before
 unheld reasons done n b = (inl (n, refl), b)
 
--- a refusal's number is not 0
 number-suc : (r : Refusal) → numberOf r ≡ suc (numberOf r - 1)
-number-suc Description = refl
-number-suc Length = refl
-number-suc NoSuchBlock = refl
-number-suc CountTooLarge = refl
-number-suc TooEarly = refl
-number-suc BinsRemain = refl
-number-suc AllRead = refl
-number-suc SampleTooLarge = refl
-number-suc DeliveredBefore = refl
-number-suc NotReady = refl
-number-suc FilteredBefore = refl
-number-suc NoBins = refl
-number-suc NoRoom = refl
-number-suc Stored = refl
+number-suc r = let positive = number-positive r in omega arith
 
 -- a reason behind the first
 pub refused-at : {a : List ℕ} {before : Type 0} (reasons : List Reason) (done : Type 0) (n : ℕ)
@@ -68,10 +51,3 @@ next e f = ap₂ _∷_ e f
 pub tested-on : (n : ℕ) → not (eqb n 0) ≡ isOn n
 tested-on zero = refl
 tested-on (suc n) = ap not (ne-eqb (suc n) 0 (λ e. omega arith))
-
--- ---- a set's bytes
-
--- a set put where there is room for one entry only
-pub entered-alone : (l : List ℕ) (q : CtuSet) → length l ≡ 18 → entered l 0 q ≡ encode q
-unfolding entered
-entered-alone l q e = ap (λ (r : List ℕ). encode q ++ r) (drop-of-length-le l {i = 18} (omega arith)) ∙ append-nil (encode q)

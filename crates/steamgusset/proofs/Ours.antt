@@ -3,7 +3,7 @@
 use mathlib.Core.Bool.{Bool, true, false}
 use mathlib.Core.List.{List, [], _∷_}
 use mathlib.Core.Logic.{inl, inr}
-use mathlib.Core.Path.{_≡_, refl, sym, ap, ap₂, _∙_, subst}
+use mathlib.Core.Path.{_≡_, refl, sym, ap, _∙_}
 use Prim.Native.Nat.{ℕ, zero, suc, _*_}
 use native.Mathlib.Omega.{arith}
 use lib.ListN.{length, getD, take}
@@ -14,7 +14,7 @@ use Rattle.standard.specs.Refusals.{_if_, First, Clear}
 use Rattle.standard.specs.Reasons.{Planes, planeOf}
 use Rattle.standard.specs.Picture.{planeWidth}
 use Rattle.standard.specs.Sets.{allOff}
-use Rattle.standard.specs.Calls.{leading}
+use Rattle.standard.specs.Calls.{openedState, stateAfter, leading}
 use Rattle.sets.specs.Entries.{StandsFor}
 use Rattle.promises.specs.World.{World, Call, Open, Read, Write, Deliver, Filter, Rows, Answer, refused, done, set-read, bins-written, rows, Result, reasonsOf}
 use Rattle.promises.specs.Contract.{Effect, unchanged}
@@ -32,14 +32,12 @@ on-digit false = refl
 on-digit true = refl
 
 pub numbers-back : (s : State) → stateOf (numbersOf s) ≡ s
-unfolding numbersOf stateOf
-numbers-back s =
-    ap₂ (λ (l c : Bool). record { picture = record { width = s .picture .width; height = s .picture .height; ctb = s .picture .ctb; format = s .picture .format; depth = s .picture .depth; luma = l; chroma = c }; next = s .next })
-    (on-digit (s .picture .luma)) (on-digit (s .picture .chroma))
+unfolding stateOf
+numbers-back s = simp on-digit
 
 -- the state that is left
-left : {b : List ℕ} {s : State} → b ≡ numbersOf s → s ≡ stateOf b
-left {s = s} e = sym (ap stateOf e ∙ numbers-back s)
+left : {b : List ℕ} (s : State) → b ≡ numbersOf s → s ≡ stateOf b
+left s e = sym (ap stateOf e ∙ numbers-back s)
 
 -- ---- a beginning of a list, by its length
 
@@ -71,7 +69,7 @@ module _ (a : List ℕ) (held : Held a) (deblocked filtered : Planes) (marks tab
 
   pub open-ours : (r : ℕ) (b m : List ℕ) → OpenCrosses a marks r b m → ours Open world ≡ resulting (told r done) [] (stateOf b) deblocked filtered m table
   open-ours zero b m h =
-      acted a held Open world h (λ t z. resulting done [] (sym (left (t .0)) z) deblocked filtered (t .1 z) table)
+      acted a held Open world h (λ t z. resulting done [] (sym (left (openedState (stateOf a)) (t .0)) z) deblocked filtered (t .1 z) table)
   open-ours (suc n) b m h =
       kept a held Open world h ∙ (λ z. resulting (refused (suc n)) [] (stateOf (sym (h .1 .0) z)) deblocked filtered (sym (h .1 .1) z) table)
 
@@ -97,7 +95,7 @@ module _ (a : List ℕ) (held : Held a) (deblocked filtered : Planes) (marks tab
         g .set,
         (λ z. g .encoded),
         acted a held (Read bytes count) world h
-            (λ d. (g .set, g .means, λ z. resulting (set-read (g .set)) [] (sym (left (h .1 .0)) z) deblocked filtered marks (g .stored z))),
+            (λ d. (g .set, g .means, λ z. resulting (set-read (g .set)) [] (sym (left (stateAfter (stateOf a)) (h .1 .0)) z) deblocked filtered marks (g .stored z))),
       )
   read-ours bytes count set (suc n) b t e h = (
     allOff,
@@ -108,7 +106,7 @@ module _ (a : List ℕ) (held : Held a) (deblocked filtered : Planes) (marks tab
   pub write-ours : (set out : List ℕ) (k r : ℕ) (b o t : List ℕ) (n : ℕ) → WriteCrosses a set out table k r b o t n
       → (q : CtuSet) × StandsFor set q × (ours (Write q out) world ≡ resulting (told r (bins-written n)) o (stateOf b) deblocked filtered marks t)
   write-ours set out k zero b o t n (q, s, h) =
-      (q, s, acted a held (Write q out) world h (λ e. (n, o, e .1, λ z. resulting (bins-written n) o (sym (left (e .0)) z) deblocked filtered marks (e .2 z))))
+      (q, s, acted a held (Write q out) world h (λ e. (n, o, e .1, λ z. resulting (bins-written n) o (sym (left (stateAfter (stateOf a)) (e .0)) z) deblocked filtered marks (e .2 z))))
   write-ours set out k (suc m) b o t n (q, s, h) =
       (q, s, kept a held (Write q out) world h ∙ (λ z. resulting (refused (suc m)) (sym (h .1 .1) z) (stateOf (sym (h .1 .0) z)) deblocked filtered marks (sym (h .1 .2) z)))
 

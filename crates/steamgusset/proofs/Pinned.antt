@@ -1,5 +1,5 @@
 -- The contracts of the exports have one outcome each: two that hold of the same input have the same answer and leave the same.
-use mathlib.Core.List.{List, [], _∷_}
+use mathlib.Core.List.{List, [], _∷_, _++_}
 use mathlib.Core.Path.{_≡_, refl, sym, ap, _∙_, subst}
 use Prim.Native.Nat.{ℕ, zero, suc}
 use lib.ListN.{length}
@@ -7,13 +7,14 @@ use Rattle.standard.specs.declared.State.{State}
 use Rattle.standard.specs.declared.CtuSet.{CtuSet}
 use Rattle.standard.specs.Table.{encode}
 use Rattle.standard.specs.Refusals.{Reason, _if_, Clear}
-use Rattle.standard.specs.Reasons.{Planes, planeOf, DescriptionBreaksARule, NoSuchComponentOrCtb, openReasons, readReasons, writeReasons, deliverReasons, filterReasons, rowsReasons}
+use Rattle.standard.specs.Reasons.{Planes, planeOf, descriptionReasons, blockReasons, openReasons, readReasons, writeReasons, deliverReasons, filterReasons, rowsReasons}
 use Rattle.standard.specs.Calls.{tableWith, stateAfter, leading}
 use Rattle.standard.specs.Contracts.{Wrote}
 use Rattle.standard.proofs.Numbers.{first-unique, first-not-clear}
 use Rattle.standard.proofs.Reader.{one-meaning}
 use Rattle.sets.proofs.Once.{stands-once}
-use Rattle.promises.proofs.Painting.{plane-not-short, component-there, block-unique}
+use Rattle.standard.proofs.Granted.{may-deliver, may-filter}
+use Rattle.promises.proofs.Painting.{block-unique}
 use Rattle.promises.proofs.Finishing.{rows-unique}
 use Rattle.promises.proofs.Unique.{wrote-unique}
 use Rattle.steamgusset.specs.Boundary.{numbersOf, stateOf}
@@ -86,7 +87,9 @@ module _ (a : List ℕ) (i k : ℕ) (samples : List ℕ) (deblocked : Planes) (m
   pub deliver-once : DeliverCrosses a i k samples deblocked marks r b m → DeliverCrosses a i k samples deblocked marks t c n → (r ≡ t) × ((b ≡ c) × (m ≡ n))
   deliver-once =
       both a (deliverReasons (stateOf a) i k samples deblocked marks) _ _ _ _ ((b ≡ c) × (m ≡ n)) r t
-      (λ l x y. (block-unique (x .0) (y .0) (plane-not-short (λ f. f .0) (l .1 .0) i (component-there (stateOf a .picture) i (l .1 .1 .1 .0))), one (x .1) (y .1)))
+      (λ l x y.
+      let may = may-deliver (stateOf a) i k samples deblocked marks l in
+      (block-unique (x .0) (y .0) (may .block .component) (may .deblocked-fits), one (x .1) (y .1)))
       (λ x y. (one (x .0) (y .0), one (x .1) (y .1)))
 
 module _ (a : List ℕ) (i k : ℕ) (deblocked filtered : Planes) (marks table : List ℕ) (r t : ℕ) (b c : Planes) (m n : List ℕ) where
@@ -94,7 +97,9 @@ module _ (a : List ℕ) (i k : ℕ) (deblocked filtered : Planes) (marks table :
       → (r ≡ t) × ((b ≡ c) × (m ≡ n))
   filter-once =
       both a (filterReasons (stateOf a) i k deblocked filtered marks table) _ _ _ _ ((b ≡ c) × (m ≡ n)) r t
-      (λ l x y. (block-unique (x .0) (y .0) (plane-not-short (λ f. f .1) (l .1 .0) i (component-there (stateOf a .picture) i (l .1 .1 .1 .0))), one (x .1) (y .1)))
+      (λ l x y.
+      let may = may-filter (stateOf a) i k deblocked filtered marks table l in
+      (block-unique (x .0) (y .0) (may .block .component) (may .filtered-fits), one (x .1) (y .1)))
       (λ x y. (one (x .0) (y .0), one (x .1) (y .1)))
 
 -- ---- finished rows, sizes, and the place of a block
@@ -111,8 +116,8 @@ module _ (a : List ℕ) (r t : ℕ) (m n : List ℕ) where
   rows-once i filtered marks finished = both a (rowsReasons (stateOf a) i filtered marks) _ _ _ _ (m ≡ n) r t (λ l h g. rows-into-once h g) one
 
   pub sizes-once : (sizes : List ℕ) → SizesCross a sizes r m → SizesCross a sizes t n → (r ≡ t) × (m ≡ n)
-  sizes-once sizes = both a ((1 if DescriptionBreaksARule (stateOf a)) ∷ []) _ _ _ _ (m ≡ n) r t (λ l h g. one h g) one
+  sizes-once sizes = both a (descriptionReasons (stateOf a)) _ _ _ _ (m ≡ n) r t (λ l h g. one h g) one
 
   pub block-once : (i k : ℕ) (block : List ℕ) → BlockCrosses a i k block r m → BlockCrosses a i k block t n → (r ≡ t) × (m ≡ n)
   block-once i k block =
-      both a ((1 if DescriptionBreaksARule (stateOf a)) ∷ (3 if NoSuchComponentOrCtb (stateOf a) i k) ∷ []) _ _ _ _ (m ≡ n) r t (λ l h g. one h g) one
+      both a (descriptionReasons (stateOf a) ++ blockReasons (stateOf a) i k) _ _ _ _ (m ≡ n) r t (λ l h g. one h g) one

@@ -1,4 +1,4 @@
--- What 18 bytes stand for: a set's own bytes for it, and any bytes for some set. Where six of them encode nothing, the set is not within the
+-- What the bytes of a set stand for: a set's own bytes for it, and any bytes for some set. Where six of them encode nothing, the set is not within the
 -- rules and so is no copy of a neighbour's that is: no bins mean it, and write refuses it.
 use mathlib.Core.Path.{_≡_, refl, sym, ap, _∙_, subst}
 use mathlib.Core.Bool.{Bool, true, false}
@@ -13,19 +13,21 @@ use Rattle.standard.specs.declared.Offsets.{Offsets}
 use Rattle.standard.specs.declared.Offsets.the-variants.{Off}
 use Rattle.standard.specs.declared.CtuSet.{CtuSet}
 use Rattle.standard.specs.declared.State.{State}
-use Rattle.standard.specs.Picture.{leftOf, aboveOf}
-use Rattle.standard.specs.Sets.{Switches, switchesOf, most, Fits, Shares, Ruled, Valid, allOff}
+use Rattle.standard.specs.Picture.{mergeLeft, mergeUp}
+use Rattle.standard.specs.declared.Switches.{Switches}
+use Rattle.standard.specs.Sets.{switchesOf, most, Fits, Shares, Ruled, Valid, allOff}
 use Rattle.standard.specs.Means.{no-bins, merge-left, merge-up, in-full}
 use Rattle.standard.specs.Table.{encodeOffsets, decodeOffsets, encode, stored, storedAt}
-use Rattle.standard.specs.Reasons.{due, NeighbourOutsideTheRules, NoBinsMeanThisSet}
+use Rattle.standard.specs.Reasons.{NeighbourOutsideTheRules, NoBinsMeanThisSet}
 use Rattle.standard.proofs.Decisions.{differ}
+use Rattle.standard.proofs.Granted.{may-write}
 use Rattle.standard.proofs.Judging.{same-bytes?}
 use Rattle.standard.proofs.Entries.{ByteOffsets, Bytes, offsets-back, offsets-length, stored-sound}
 use Rattle.sets.specs.Entries.{Unsaid, Encodes, Stands, StandsFor}
 use Rattle.steamgusset.specs.Boundary.{stateOf}
 use Rattle.steamgusset.specs.Exports.{WriteCrosses}
 
--- ---- every 18 bytes stand for a set
+-- ---- all bytes stand for a set
 
 offsets-some : (six : List ℕ) → (o : Offsets) × Stands six o
 offsets-some six = go (same-bytes? six (encodeOffsets (decodeOffsets six)))
@@ -85,19 +87,19 @@ all-off-valid s = record { luma = luma (s .luma); chroma = chroma (s .chroma) }
     chroma false = (refl, refl)
 
 -- a neighbour that has it is outside them too
-neighbour-outside : (s : State) (table : List ℕ) (o : Option ℕ) (q : CtuSet) → ¬ Valid (switchesOf (s .picture)) q
+neighbour-outside : (s : State) (table : List ℕ) (o : Option ℕ) (q : CtuSet) → ¬ Valid (switchesOf s) q
     → storedAt table o ≡ some q → NeighbourOutsideTheRules s table o
 neighbour-outside s table none q n e = differ (cc)
 neighbour-outside s table (some k) q n e =
     let same : stored table k ≡ q = cc in
-    λ sound. n (subst (Valid (switchesOf (s .picture))) (sym (stored-sound sound) ∙ same) (sound .rules))
+    λ sound. n (subst (Valid (switchesOf s)) (sym (stored-sound sound) ∙ same) (sound .rules))
 
 module _ (s : State) (table : List ℕ) (q : CtuSet)
-    (left : ¬ NeighbourOutsideTheRules s table (leftOf (s .picture) (due s))) (up : ¬ NeighbourOutsideTheRules s table (aboveOf (s .picture) (due s))) where
-  pub invalid-no-bins : ¬ Valid (switchesOf (s .picture)) q → NoBinsMeanThisSet s table q
-  invalid-no-bins n bins (no-bins f g h) = n (subst (Valid (switchesOf (s .picture))) (sym g) (all-off-valid (switchesOf (s .picture))))
-  invalid-no-bins n bins (merge-left f g h) = left (neighbour-outside s table (leftOf (s .picture) (due s)) q n g)
-  invalid-no-bins n bins (merge-up f g h) = up (neighbour-outside s table (aboveOf (s .picture) (due s)) q n g)
+    (left : ¬ NeighbourOutsideTheRules s table (mergeLeft s)) (up : ¬ NeighbourOutsideTheRules s table (mergeUp s)) where
+  pub invalid-no-bins : ¬ Valid (switchesOf s) q → NoBinsMeanThisSet s table q
+  invalid-no-bins n bins (no-bins f g h) = n (subst (Valid (switchesOf s)) (sym g) (all-off-valid (switchesOf s)))
+  invalid-no-bins n bins (merge-left f g h) = left (neighbour-outside s table (mergeLeft s) q n g)
+  invalid-no-bins n bins (merge-up f g h) = up (neighbour-outside s table (mergeUp s) q n g)
   invalid-no-bins n bins (in-full f g h) = n g
 
 -- ---- bytes that encode nothing
@@ -106,7 +108,7 @@ module _ (s : State) (table : List ℕ) (q : CtuSet)
 abbrev pub SomeUnsaid : CtuSet → Type 0
 SomeUnsaid q = (q .luma ≡ Unsaid) ⊎ ((q .cb ≡ Unsaid) ⊎ (q .cr ≡ Unsaid))
 
--- six bytes of the 18 encode nothing
+-- six bytes of them encode nothing
 abbrev pub SomeEncodeNothing : List ℕ → Type 0
 SomeEncodeNothing bytes = (¬ Encodes (take 6 bytes)) ⊎ ((¬ Encodes (take 6 (drop 6 bytes))) ⊎ (¬ Encodes (take 6 (drop 12 bytes))))
 
@@ -141,16 +143,15 @@ unsaid-invalid s q (inr (inr e)) v =
 
 -- by reason 12 at the latest
 pub unsaid-no-bins : (s : State) (table : List ℕ) (q : CtuSet)
-    → ¬ NeighbourOutsideTheRules s table (leftOf (s .picture) (due s)) → ¬ NeighbourOutsideTheRules s table (aboveOf (s .picture) (due s))
+    → ¬ NeighbourOutsideTheRules s table (mergeLeft s) → ¬ NeighbourOutsideTheRules s table (mergeUp s)
     → SomeUnsaid q → NoBinsMeanThisSet s table q
-unsaid-no-bins s table q left up e = invalid-no-bins s table q left up (unsaid-invalid (switchesOf (s .picture)) q e)
+unsaid-no-bins s table q left up e = invalid-no-bins s table q left up (unsaid-invalid (switchesOf s) q e)
 
 -- such bytes are never written
 pub nothing-refused : (a set out table : List ℕ) (n r : ℕ) (a′ out′ table′ : List ℕ) (n′ : ℕ) → SomeEncodeNothing set
     → WriteCrosses a set out table n r a′ out′ table′ n′ → ¬ (r ≡ 0)
 nothing-refused a set out table n zero a′ out′ table′ n′ e w z =
     let s = stateOf a in
-    let clear = w .2 .0 in
-    let beside = clear .1 .1 .1 .1 .1 .0 in
-    clear .1 .1 .1 .1 .1 .1 .0 (unsaid-no-bins s table (w .0) (λ l. beside (inl l)) (λ u. beside (inr u)) (nothing-unsaid e (w .1)))
+    let may = may-write s (w .0) out table (w .2 .0 .1) in
+    may .set .meant (unsaid-no-bins s table (w .0) (may .set .left) (may .set .up) (nothing-unsaid e (w .1)))
 nothing-refused a set out table n (suc r) a′ out′ table′ n′ e w z = omega arith

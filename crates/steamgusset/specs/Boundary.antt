@@ -1,9 +1,10 @@
--- The numbers that cross: a state as eight, what a caller has to lend as fourteen, the place of a block as four.
+-- The numbers that cross: a state, each of its numbers at the place that is named here; what a caller has to lend as fourteen, the place of a
+-- block as four.
 use mathlib.Core.Bool.{Bool, true, false, cond}
 use mathlib.Core.List.{List, [], _∷_}
 use Prim.Native.Nat.{ℕ, zero, suc, _*_, _≤_, min}
 use lib.Dec.{ltb}
-use lib.ListN.{getD}
+use lib.ListN.{getD, set, replicate}
 use Rattle.standard.specs.declared.Picture.{Picture}
 use Rattle.standard.specs.declared.State.{State}
 use Rattle.standard.specs.declared.Rectangle.{Rectangle}
@@ -11,9 +12,38 @@ use Rattle.standard.specs.Picture.{components, planeWidth, planeHeight, samples
 use Rattle.standard.specs.Table.{entrySize}
 use Rattle.standard.specs.Reasons.{markCount}
 
+-- ---- the layout of a state: the place of each number among those that cross, and how many they are
+
+abbrev pub WIDTH : ℕ
+WIDTH = 0
+
+abbrev pub HEIGHT : ℕ
+HEIGHT = suc WIDTH
+
+abbrev pub CTB : ℕ
+CTB = suc HEIGHT
+
+abbrev pub FORMAT : ℕ
+FORMAT = suc CTB
+
+abbrev pub DEPTH : ℕ
+DEPTH = suc FORMAT
+
+abbrev pub LUMA : ℕ
+LUMA = suc DEPTH
+
+abbrev pub CHROMA : ℕ
+CHROMA = suc LUMA
+
+abbrev pub NEXT : ℕ
+NEXT = suc CHROMA
+
+abbrev pub NUMBERS : ℕ
+NUMBERS = suc NEXT
+
 -- ---- a state
 
--- width, height, CTB size, format, depth, luma switch, chroma switch, next CTU
+-- a switch is 1 where it is on
 abbrev pub digit : Bool → ℕ
 digit false = 0
 digit true = 1
@@ -22,28 +52,46 @@ abbrev pub isOn : ℕ → Bool
 isOn zero = false
 isOn (suc n) = true
 
-unfoldable pub numbersOf : State → List ℕ
+-- as many numbers as cross, those that are told at their places
+abbrev pub laid : List (ℕ × ℕ) → List ℕ
+laid [] = replicate NUMBERS 0
+laid ((place, n) ∷ l) = set (laid l) place n
+
+abbrev pub numbersOf : State → List ℕ
 numbersOf s =
-    s .picture .width
-    ∷ s .picture .height
-    ∷ s .picture .ctb
-    ∷ s .picture .format
-    ∷ s .picture .depth
-    ∷ digit (s .picture .luma)
-    ∷ digit (s .picture .chroma)
-    ∷ s .next
+    laid (
+    (WIDTH, s .picture .width)
+    ∷ (HEIGHT, s .picture .height)
+    ∷ (CTB, s .picture .ctb)
+    ∷ (FORMAT, s .picture .format)
+    ∷ (DEPTH, s .picture .depth)
+    ∷ (LUMA, digit (s .picture .luma))
+    ∷ (CHROMA, digit (s .picture .chroma))
+    ∷ (NEXT, s .next)
     ∷ []
+    )
 
 unfoldable pub stateOf : List ℕ → State
 stateOf a =
-    record { picture = record { width = getD a 0 0; height = getD a 1 0; ctb = getD a 2 0; format = getD a 3 0; depth = getD a 4 0; luma = isOn (getD a 5 0); chroma = isOn (getD a 6 0) }; next = getD a 7 0 }
+    record {
+      picture = record {
+        width = getD a WIDTH 0;
+        height = getD a HEIGHT 0;
+        ctb = getD a CTB 0;
+        format = getD a FORMAT 0;
+        depth = getD a DEPTH 0;
+        luma = isOn (getD a LUMA 0);
+        chroma = isOn (getD a CHROMA 0);
+      };
+      next = getD a NEXT 0;
+    }
 
 -- the fields of a state hold the numbers: format and depth are bytes, and a switch is 0 or 1
 pub record Held (a : List ℕ) : Type 0 where
-  pub format : getD a 3 0 ≤ 255
-  pub depth : getD a 4 0 ≤ 255
-  pub luma : getD a 5 0 ≤ 1
-  pub chroma : getD a 6 0 ≤ 1
+  pub format : getD a FORMAT 0 ≤ 255
+  pub depth : getD a DEPTH 0 ≤ 255
+  pub luma : getD a LUMA 0 ≤ 1
+  pub chroma : getD a CHROMA 0 ≤ 1
 
 -- ---- a component
 

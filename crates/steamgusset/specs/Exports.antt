@@ -1,7 +1,7 @@
 -- What each exported function ensures of the number that it answers and of all that it is lent: 0, and the call has acted; or the number
 -- of the first reason that holds, and all is as it was. The reasons are the call's own; before them stands that no state holds the numbers.
 use mathlib.Core.Path.{_≡_}
-use mathlib.Core.List.{List, [], _∷_}
+use mathlib.Core.List.{List, [], _∷_, _++_}
 use Prim.Native.Nat.{ℕ, zero, suc}
 use lib.ListN.{length}
 use Rattle.standard.specs.declared.State.{State}
@@ -10,7 +10,7 @@ use Rattle.standard.specs.Picture.{rectangle}
 use Rattle.standard.specs.Bins.{binsOf}
 use Rattle.standard.specs.Table.{encode}
 use Rattle.standard.specs.Refusals.{Reason, _if_, First, Clear}
-use Rattle.standard.specs.Reasons.{Planes, planeOf, MeansHere, DescriptionBreaksARule, NoSuchComponentOrCtb, openReasons, readReasons, writeReasons, deliverReasons, filterReasons, rowsReasons}
+use Rattle.standard.specs.Reasons.{Planes, planeOf, MeansHere, descriptionReasons, blockReasons, openReasons, readReasons, writeReasons, deliverReasons, filterReasons, rowsReasons}
 use Rattle.standard.specs.Calls.{openedMarks, openedState, tableWith, stateAfter, marked, Delivered, Filtered, FinishedRows, leading}
 use Rattle.standard.specs.Contracts.{Wrote}
 use Rattle.sets.specs.Entries.{StandsFor}
@@ -80,10 +80,10 @@ RowsCrosses a i filtered marks finished r finished′ =
 
 abbrev pub SizesCross : List ℕ → List ℕ → ℕ → List ℕ → Type 0
 SizesCross a sizes r sizes′ =
-    Answers a ((1 if DescriptionBreaksARule (stateOf a)) ∷ []) r (sizes′ ≡ sizesOf (stateOf a .picture)) (sizes′ ≡ sizes)
+    Answers a (descriptionReasons (stateOf a)) r (sizes′ ≡ sizesOf (stateOf a .picture)) (sizes′ ≡ sizes)
 
 abbrev pub BlockCrosses : List ℕ → ℕ → ℕ → List ℕ → ℕ → List ℕ → Type 0
 BlockCrosses a i k block r block′ =
-    Answers a ((1 if DescriptionBreaksARule (stateOf a)) ∷ (3 if NoSuchComponentOrCtb (stateOf a) i k) ∷ []) r
+    Answers a (descriptionReasons (stateOf a) ++ blockReasons (stateOf a) i k) r
     (block′ ≡ placeOf (rectangle (stateOf a .picture) i k))
     (block′ ≡ block)

@@ -1,52 +1,73 @@
 // The exported interface: a function for each call, on plain memory, for C and Rust to link. Its other half is
 // include/steamgusset.h.
 //
-// The state crosses as eight numbers: width, height, CTB size, format, depth, luma switch, chroma switch, next CTU. A
-// set crosses as its 18 bytes in the table. Each function answers 0, or the number of its refusal; what else it has to
-// say it leaves in lent memory. A refusal leaves all that is lent as it was.
+// The state crosses as numbers, each at the place that is named below. A set crosses as its bytes. Each function answers
+// 0, or the number of its refusal; what else it has to say it leaves in lent memory. A refusal leaves all that is lent as
+// it was.
 ghost use Prim.Native.Nat.{_≤_, _<_};
 ghost use mathlib.Core.Path.{_≡_};
 ghost use Rattle.standard.specs.Picture.{Rules};
 ghost use Rattle.standard.specs.Refusals.{Tells};
-ghost use Rattle.steamgusset.specs.Boundary.{Held, digit, numbersOf, stateOf, inByte, widthOf, heightOf, sizesOf};
+ghost use Rattle.steamgusset.specs.Boundary.{Held, numbersOf, stateOf, inByte, widthOf, heightOf, sizesOf};
 ghost use Rattle.steamgusset.specs.Exports.{OpenCrosses, ReadCrosses, WriteCrosses, DeliverCrosses, FilterCrosses, RowsCrosses, SizesCross, BlockCrosses};
 use standard::Answer;
 use standard::Picture;
 use standard::ReadAnswer;
 use standard::RowsAnswer;
+use standard::SET_BYTES;
 use standard::State;
 use standard::WriteAnswer;
+
+// ---- the layout of a state: where each number stands among those that cross, and how many they are
+
+const WIDTH: usize = 0;
+
+const HEIGHT: usize = WIDTH + 1;
+
+const CTB: usize = HEIGHT + 1;
+
+const FORMAT: usize = CTB + 1;
+
+const DEPTH: usize = FORMAT + 1;
+
+const LUMA: usize = DEPTH + 1;
+
+const CHROMA: usize = LUMA + 1;
+
+const NEXT: usize = CHROMA + 1;
+
+const NUMBERS: usize = NEXT + 1;
 
 // ---- what crosses
 
 // Whether the fields of a state hold the numbers.
-fn is_held(a: &[u32; 8]) -> bool
+fn is_held(a: &[u32; NUMBERS]) -> bool
     ensures { λ r. ⌜ Tells (Held (now (a .entry))) r ⌝ }
 {
-    if a[3] > 255 {
+    if a[FORMAT] > 255 {
         return false;
     }
-    if a[4] > 255 {
+    if a[DEPTH] > 255 {
         return false;
     }
-    if a[5] > 1 {
+    if a[LUMA] > 1 {
         return false;
     }
-    a[6] <= 1
+    a[CHROMA] <= 1
 }
 
-fn state_of(a: &[u32; 8]) -> State
+fn state_of(a: &[u32; NUMBERS]) -> State
     requires { ⌜ Held (now a) ⌝ }
     ensures { λ r. ⌜ r ≡ stateOf (now (a .entry)) ⌝ }
 {
-    let width = a[0];
-    let height = a[1];
-    let ctb = a[2];
-    let format = a[3] as u8;
-    let depth = a[4] as u8;
-    let luma = a[5] != 0;
-    let chroma = a[6] != 0;
-    let next = a[7];
+    let width = a[WIDTH];
+    let height = a[HEIGHT];
+    let ctb = a[CTB];
+    let format = a[FORMAT] as u8;
+    let depth = a[DEPTH] as u8;
+    let luma = a[LUMA] != 0;
+    let chroma = a[CHROMA] != 0;
+    let next = a[NEXT];
     let picture = Picture {
         width,
         height,
@@ -59,29 +80,22 @@ fn state_of(a: &[u32; 8]) -> State
     State { picture, next }
 }
 
-// A switch is 1 where it is on.
-fn digit_of(on: bool) -> u32
-    ensures { λ r. ⌜ r ≡ digit on ⌝ }
-{
-    if on { 1 } else { 0 }
-}
-
-// All eight at once: how long an array behind a reference is, the prover is not told, and so it
+// All of them at once, in an array of its own: how long one behind a reference is, the prover is not told, and so it
 // follows no store to one of its places.
-fn numbers_of(s: State) -> [u32; 8]
+fn numbers_of(s: State) -> [u32; NUMBERS]
     ensures { λ r. ⌜ r ≡ numbersOf s ⌝ }
 {
     let p = s.picture;
-    [
-        p.width,
-        p.height,
-        p.ctb,
-        p.format as u32,
-        p.depth as u32,
-        digit_of(p.luma),
-        digit_of(p.chroma),
-        s.next,
-    ]
+    let mut a = [0; NUMBERS];
+    a[WIDTH] = p.width;
+    a[HEIGHT] = p.height;
+    a[CTB] = p.ctb;
+    a[FORMAT] = p.format as u32;
+    a[DEPTH] = p.depth as u32;
+    a[LUMA] = p.luma as u32;
+    a[CHROMA] = p.chroma as u32;
+    a[NEXT] = s.next;
+    a
 }
 
 // A component's number in a byte. No picture has a component 255, so a larger number means no other.
@@ -98,7 +112,7 @@ fn in_byte(component: u32) -> u8
 // ---- the calls
 
 #[no_mangle]
-pub extern "C" fn sg_open(state: &mut [u32; 8], marks: &mut [u8]) -> u32
+pub extern "C" fn sg_open(state: &mut [u32; NUMBERS], marks: &mut [u8]) -> u32
     ensures { λ r. ⌜ OpenCrosses (now (state .entry)) (now (marks .entry)) r (now (state .exit)) (now (marks .exit)) ⌝ }
 {
     if !is_held(state) {
@@ -119,11 +133,11 @@ pub extern "C" fn sg_open(state: &mut [u32; 8], marks: &mut [u8]) -> u32
 
 #[no_mangle]
 pub extern "C" fn sg_read(
-    state: &mut [u32; 8],
+    state: &mut [u32; NUMBERS],
     bins: &[u8],
     count: usize,
     table: &mut [u8],
-    set: &mut [u8; 18],
+    set: &mut [u8; SET_BYTES],
 ) -> u32
     ensures { λ r. ⌜ ReadCrosses (now (state .entry)) (now (bins .entry)) count (now (table .entry)) (now (set .entry)) r (now (state .exit)) (now (table .exit)) (now (set .exit)) ⌝ }
 {
@@ -138,7 +152,7 @@ pub extern "C" fn sg_read(
         ReadAnswer::Set(q) => {
             let advanced = o.state;
             *state = numbers_of(advanced);
-            sets::put_set(set, 0, q);
+            sets::say_set(set, q);
             0
         }
     }
@@ -146,8 +160,8 @@ pub extern "C" fn sg_read(
 
 #[no_mangle]
 pub extern "C" fn sg_write(
-    state: &mut [u32; 8],
-    set: &[u8; 18],
+    state: &mut [u32; NUMBERS],
+    set: &[u8; SET_BYTES],
     out: &mut [u8],
     table: &mut [u8],
     count: &mut usize,
@@ -172,7 +186,7 @@ pub extern "C" fn sg_write(
 
 #[no_mangle]
 pub extern "C" fn sg_deliver(
-    state: &[u32; 8],
+    state: &[u32; NUMBERS],
     component: u32,
     ctb: u32,
     samples: &[u16],
@@ -198,7 +212,7 @@ pub extern "C" fn sg_deliver(
 
 #[no_mangle]
 pub extern "C" fn sg_filter(
-    state: &[u32; 8],
+    state: &[u32; NUMBERS],
     component: u32,
     ctb: u32,
     y: &[u16],
@@ -228,7 +242,7 @@ pub extern "C" fn sg_filter(
 // Of the finished rows, which are the caller's own, how many rows and how many samples there are.
 #[no_mangle]
 pub extern "C" fn sg_finished_rows<'a>(
-    state: &[u32; 8],
+    state: &[u32; NUMBERS],
     component: u32,
     y: &'a [u16],
     cb: &'a [u16],
@@ -301,25 +315,26 @@ fn sizes_of(p: Picture) -> [usize; 14]
 }
 
 #[no_mangle]
-pub extern "C" fn sg_sizes(state: &[u32; 8], sizes: &mut [usize; 14]) -> u32
+pub extern "C" fn sg_sizes(state: &[u32; NUMBERS], sizes: &mut [usize; 14]) -> u32
     ensures { λ r. ⌜ SizesCross (now (state .entry)) (now (sizes .entry)) r (now (sizes .exit)) ⌝ }
 {
     if !is_held(state) {
         return 1;
     }
     let s = state_of(state);
-    let p = s.picture;
-    if !geometry::is_described(p) {
-        return 1;
+    match lent::described_answer(s) {
+        Answer::Refused(r) => r.number(),
+        Answer::Done => {
+            *sizes = sizes_of(s.picture);
+            0
+        }
     }
-    *sizes = sizes_of(p);
-    0
 }
 
 // Where the samples of a CTB lie in its plane.
 #[no_mangle]
 pub extern "C" fn sg_block(
-    state: &[u32; 8],
+    state: &[u32; NUMBERS],
     component: u32,
     ctb: u32,
     block: &mut [usize; 4],
@@ -330,15 +345,13 @@ pub extern "C" fn sg_block(
         return 1;
     }
     let s = state_of(state);
-    let p = s.picture;
     let i = in_byte(component);
-    if !geometry::is_described(p) {
-        return 1;
+    match lent::named_answer(s, i, ctb) {
+        Answer::Refused(r) => r.number(),
+        Answer::Done => {
+            let r = geometry::ctb_rectangle(s.picture, i, ctb);
+            *block = [r.x0, r.x1, r.y0, r.y1];
+            0
+        }
     }
-    if geometry::no_such_block(p, i, ctb) {
-        return 3;
-    }
-    let r = geometry::ctb_rectangle(p, i, ctb);
-    *block = [r.x0, r.x1, r.y0, r.y1];
-    0
 }

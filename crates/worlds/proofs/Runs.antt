@@ -3,18 +3,13 @@ use mathlib.Core.Path.{_≡_, refl}
 use mathlib.Core.Bool.{true, false}
 use mathlib.Core.List.{List, [], _∷_, _++_}
 use Prim.Native.Nat.{ℕ}
-use native.Mathlib.Decide.{ℕ-discrete, decLe, decLt}
 use lib.IntN.{pos, negsuc}
 use lib.ListN.{replicate}
 use Rattle.standard.specs.declared.CtuSet.{CtuSet}
 use Rattle.standard.specs.declared.Offsets.the-variants.{Off, Edge}
-use Rattle.standard.specs.Picture.{depthOf, divisors, address, leftOf, aboveOf, rectangle, grown}
-use Rattle.standard.specs.Sets.{largest}
-use Rattle.standard.specs.Bins.{truncated, fixedLength, bitsOf, binsOf, magnitudes, rest, full, number, bytesOf, packed}
-use Rattle.standard.specs.Samples.{shiftOf, layoutOf, offsetVal, clip, stepsOf, sign, edgeIdx, counts, neighbour, edgeIdxOf, kept, edgeSample, modified, sample, tabulate, planeBy}
-use Rattle.standard.specs.Table.{encodeOffsets, encode, entry, decodeOffsets, decode, stored, entered}
-use Rattle.standard.proofs.Refusing.{openVerdict, readVerdict, writeVerdict, deliverVerdict, filterVerdict, rowsVerdict}
-use Rattle.standard.proofs.Judging.{valid?, same-bytes?}
+use Rattle.standard.specs.Samples.{sample}
+use Rattle.standard.specs.Table.{entrySize}
+use Rattle.standard.proofs.Computing.{definitions}
 use Rattle.promises.specs.World.{World, Open, Read, Write, Deliver, Filter, Rows, refused, done, set-read, rows}
 use Rattle.promises.specs.Demands.{run}
 use Rattle.promises.specs.Ours.{ours, act}
@@ -26,7 +21,7 @@ lent = record {
   deblocked = record { y = replicate 64 9; cb = []; cr = [] };
   filtered = record { y = replicate 64 9; cb = []; cr = [] };
   marks = 3 ∷ [];
-  table = replicate 18 5;
+  table = replicate entrySize 5;
 }
 
 -- document 01's case 3: edge, class 2, offsets 1, 0, 0, -2
@@ -39,30 +34,30 @@ block s = replicate 27 0 ++ (s ∷ replicate 36 0)
 
 -- before the opening neither state nor marks are sound
 pub unsound : ours (Rows 0) lent .answer ≡ refused 14
-unfolding ours rowsVerdict ℕ-discrete decLe decLt divisors
+unfolding ours act definitions
 unsound = refl
 
 abbrev opened : World
 opened = ours Open lent .world
 
 pub opens : ours Open lent .answer ≡ done
-unfolding ours act openVerdict ℕ-discrete decLe decLt
+unfolding ours act definitions
 opens = refl
 
 -- one bin is missing; none is; and they are written as they were read
 pub early : ours (Read (227 ∷ 64 ∷ []) 10) opened .answer ≡ refused 5
-unfolding ours act openVerdict readVerdict ℕ-discrete decLe decLt leftOf address aboveOf binsOf bitsOf fixedLength largest depthOf
+unfolding ours act definitions
 early = refl
 
 pub reads : ours (Read (227 ∷ 64 ∷ []) 11) opened .answer ≡ set-read edge
-unfolding ours act openVerdict readVerdict ℕ-discrete decLe decLt leftOf address aboveOf binsOf bitsOf fixedLength largest depthOf
+unfolding ours act definitions
 reads = refl
 
 pub writes : ours (Write edge (85 ∷ 85 ∷ 85 ∷ [])) opened .out ≡ 227 ∷ 64 ∷ 85 ∷ []
-unfolding ours act openVerdict writeVerdict ℕ-discrete decLe decLt leftOf address aboveOf largest depthOf full truncated rest magnitudes fixedLength packed bytesOf number
+unfolding ours act definitions
 writes = refl
 
 -- the sample in the middle is a local maximum
 pub finishes : ours (Rows 0) (run ours (Open ∷ Read (227 ∷ 64 ∷ []) 11 ∷ Deliver 0 0 (block 5) ∷ Filter 0 0 ∷ []) lent) .answer ≡ rows 8 (block 3)
-unfolding ours act openVerdict readVerdict deliverVerdict filterVerdict rowsVerdict ℕ-discrete decLe decLt leftOf address aboveOf binsOf bitsOf fixedLength largest depthOf divisors rectangle grown planeBy tabulate entered encode encodeOffsets stored entry decode decodeOffsets shiftOf layoutOf offsetVal clip stepsOf sign edgeIdx counts neighbour edgeIdxOf kept edgeSample modified sample valid? same-bytes?
+unfolding ours act definitions
 finishes = refl

@@ -5,33 +5,35 @@ use mathlib.Core.Bool.{cond}
 use mathlib.Core.List.{List, [], _∷_, _++_}
 use mathlib.Core.Logic.{Dec·and, Dec·not}
 use mathlib.Core.Option.{none}
-use Prim.Native.Nat.{ℕ, _<_}
-use native.Mathlib.Decide.{ℕ-discrete, decLe, decLt}
-use lib.Dec.{ltb, lit<}
+use Prim.Native.Nat.{ℕ, _*_, _<_}
+use native.Mathlib.Decide.{ℕ-discrete}
+use lib.Dec.{ltb}
 use lib.IntN.{pos, negsuc}
 use lib.ListN.{getD, replicate}
 use Rattle.standard.specs.declared.Picture.{Picture}
 use Rattle.standard.specs.declared.Offsets.the-variants.{Edge}
 use Rattle.standard.specs.declared.CtuSet.{CtuSet}
-use Rattle.standard.specs.Picture.{planeWidth, depthOf, divisors, rectangle, grown, address, leftOf, aboveOf}
-use Rattle.standard.specs.Sets.{largest, switchesOf, allOff}
-use Rattle.standard.specs.Bins.{truncated, fixedLength, magnitudes, signBins, signs, rest, restOfCr, full, bitsOf, binsOf, number, bytesOf, packed}
-use Rattle.standard.specs.Samples.{shiftOf, layoutOf, offsetVal, clip, bandIdx, stepsOf, sign, edgeIdx, at, counts, neighbour, edgeIdxOf, kept, bandSample, edgeSample, modified, sample, tabulate, planeBy, filteredPlane}
-use Rattle.standard.specs.Table.{encodeOffsets, encode, entry, entered, decodeOffsets, decode, stored}
-use Rattle.standard.specs.Reasons.{Planes, due, MeansHere}
+use Rattle.standard.specs.Picture.{planeWidth, divisors, rectangle, due}
+use Rattle.standard.specs.Sets.{switchesOf, allOff}
+use Rattle.standard.specs.Bins.{binsOf}
+use Rattle.standard.specs.Samples.{at, planeBy}
+use Rattle.standard.specs.Table.{entrySize, encodeEntry}
+use Rattle.standard.specs.Reasons.{Planes, MeansHere}
 use Rattle.standard.specs.Calls.{delivered}
-use Rattle.standard.proofs.Cases.{mono, ofLuma}
+use Rattle.standard.proofs.Computing.{definitions}
+use Rattle.standard.proofs.Cases.{mono, ofLuma, everywhere}
 use Rattle.standard.proofs.Decisions.{differ, by-iff, or?, some?}
 use Rattle.standard.proofs.Rasters.{inside?}
-use Rattle.standard.proofs.Judging.{rules?, valid?, same-set?, same-bytes?}
-use Rattle.standard.proofs.Reader.{readCtu, got-is-meant}
+use Rattle.standard.proofs.Judging.{rules?, same-set?}
+use Rattle.standard.proofs.Reader.{got-is-meant}
+use Rattle.standard.proofs.Refusing.{unit-due?}
 use Rattle.promises.specs.World.{World, pictureOf, Call, Open, Read, Write, Deliver, Filter, Rows, Answer, refused, done, set-read, bins-written, rows, Accepted, Stage}
 use Rattle.promises.specs.Demands.{Own, IsBlock, OwnData, NoOpening, Honest, Happened, Filters, Delivers, Lengths, Due, Life}
 use Rattle.promises.specs.Ours.{act, ours}
 
 -- all that a run of the stage computes with: `unfolding computing` opens it
 unfoldable pub computing : Unit {0}
-unfolding ours act rules? valid? same-set? same-bytes? ℕ-discrete decLe decLt depthOf divisors rectangle grown address leftOf aboveOf largest truncated fixedLength magnitudes signBins signs rest restOfCr full bitsOf binsOf number bytesOf packed shiftOf layoutOf offsetVal clip bandIdx stepsOf sign edgeIdx counts neighbour edgeIdxOf kept bandSample edgeSample modified sample tabulate planeBy filteredPlane encodeOffsets encode entry entered decodeOffsets decode stored readCtu Dec·and Dec·not or? some?
+unfolding ours act definitions
 computing = tt
 
 -- ---- what is decided
@@ -130,8 +132,8 @@ is-read? (rows n part) q = yes (λ s e. differ (cc))
 unfoldable pub own-data? : (own : Own) (c : Call) (w : World) (a : Answer) → Dec (OwnData own c w a)
 unfolding is-read? accepted? is-block? if? same-set?
 own-data? own Open w a = yes tt
-own-data? own (Read bytes count) w a = is-read? a (own .sets (due (w .state)))
-own-data? own (Write q out) w a = if? (accepted? a) (same-set? q (own .sets (due (w .state))))
+own-data? own (Read bytes count) w a = is-read? a (own .parameters .sets (due (w .state)))
+own-data? own (Write q out) w a = if? (accepted? a) (same-set? q (own .parameters .sets (due (w .state))))
 own-data? own (Deliver i k samples) w a = if? (accepted? a) (is-block? (pictureOf w) i k (own .planes i) samples)
 own-data? own (Filter i k) w a = yes tt
 own-data? own (Rows i) w a = yes tt
@@ -188,19 +190,19 @@ abbrev pub plane8 : List ℕ
 plane8 = planeBy 8 8 (λ x y. getD (5 ∷ 3 ∷ 5 ∷ 5 ∷ 6 ∷ 6 ∷ 4 ∷ 4 ∷ []) x 0)
 
 abbrev pub own8 : Own
-own8 = record { sets = λ k. edgy; planes = λ i. plane8 }
+own8 = record { parameters = everywhere edgy; planes = λ i. plane8 }
 
 -- before its opening, with what another picture left: deblocked samples 7, filtered ones 1
 abbrev pub before8 : World
-before8 = world (mono 8 8) 7 (replicate 64 7) (replicate 64 1) (9 ∷ []) (replicate 18 9)
+before8 = world (mono 8 8) 7 (replicate 64 7) (replicate 64 1) (9 ∷ []) (replicate entrySize 9)
 
 -- opened
 abbrev pub opened8 : World
-opened8 = world (mono 8 8) 0 (replicate 64 7) (replicate 64 1) (0 ∷ []) (replicate 18 9)
+opened8 = world (mono 8 8) 0 (replicate 64 7) (replicate 64 1) (0 ∷ []) (replicate entrySize 9)
 
 -- set and block are in
 abbrev pub ready8 : World
-ready8 = world (mono 8 8) 1 plane8 (replicate 64 1) (1 ∷ []) (encode edgy)
+ready8 = world (mono 8 8) 1 plane8 (replicate 64 1) (1 ∷ []) (encodeEntry edgy)
 
 -- the first filter is refused
 abbrev pub calls8 : List Call
@@ -211,14 +213,14 @@ abbrev pub plane24 : List ℕ
 plane24 = planeBy 24 8 (λ x y. cond (ltb x 16) 4 3)
 
 abbrev pub own24 : Own
-own24 = record { sets = λ k. edgy; planes = λ i. plane24 }
+own24 = record { parameters = everywhere edgy; planes = λ i. plane24 }
 
 abbrev pub before24 : World
-before24 = world (mono 24 8) 7 (replicate 192 7) (replicate 192 1) (9 ∷ 9 ∷ []) (replicate 36 9)
+before24 = world (mono 24 8) 7 (replicate 192 7) (replicate 192 1) (9 ∷ 9 ∷ []) (replicate (2 * entrySize) 9)
 
 -- both sets are in, the second by a merge, and of the blocks the first
 abbrev pub half24 : World
-half24 = world (mono 24 8) 2 (replicate 192 7) (replicate 192 1) (1 ∷ 0 ∷ []) (encode edgy ++ encode edgy)
+half24 = world (mono 24 8) 2 (replicate 192 7) (replicate 192 1) (1 ∷ 0 ∷ []) (encodeEntry edgy ++ encodeEntry edgy)
 
 -- the first filter is asked for while the block to the right is missing
 abbrev pub calls24 : List Call
@@ -234,7 +236,7 @@ calls24 =
 
 -- TWO CTBs one above the other: 8x24, of which the upper is filtered
 abbrev pub tall24 : World
-tall24 = world (mono 8 24) 2 (replicate 192 7) (replicate 192 1) (2 ∷ 1 ∷ []) (encode edgy ++ encode edgy)
+tall24 = world (mono 8 24) 2 (replicate 192 7) (replicate 192 1) (2 ∷ 1 ∷ []) (encodeEntry edgy ++ encodeEntry edgy)
 
 pub lengths8 : Lengths before8
 unfolding divisors
@@ -250,11 +252,11 @@ unfolding computing
 due8 = record {
   rules = holds (rules? (mono 8 8)) tt;
   lengths = record { deblocked = record { y = refl; cb = refl; cr = refl }; filtered = record { y = refl; cb = refl; cr = refl }; marks = refl; table = refl };
-  unit = lit< tt;
+  unit = holds (unit-due? (opened8 .state)) tt;
   left = λ b. b;
   above = λ b. b;
 }
 
 pub means-edgy : MeansHere (opened8 .state) (opened8 .table) edgy (binsOf edgyBytes edgyCount)
 unfolding computing
-means-edgy = got-is-meant (switchesOf (mono 8 8)) none none (binsOf edgyBytes edgyCount) refl
+means-edgy = got-is-meant (switchesOf (opened8 .state)) none none (binsOf edgyBytes edgyCount) refl

@@ -6,7 +6,7 @@ use mathlib.Core.Logic.{inl, inr, Dec·not}
 use mathlib.Core.Option.{some, none}
 use Prim.Native.Nat.{ℕ, suc, _*_, _≤_, _<_}
 use native.Mathlib.Omega.{arith}
-use lib.Dec.{lit<, lit≤}
+use lib.Dec.{lit≤}
 use lib.IntN.{pos}
 use lib.ListN.{length, getD, replicate}
 use Rattle.standard.specs.declared.Picture.{Picture}
@@ -16,14 +16,14 @@ use Rattle.standard.specs.Picture.{components, divisors, ctuCount}
 use Rattle.standard.specs.Sets.{switchesOf}
 use Rattle.standard.specs.Bins.{binsOf}
 use Rattle.standard.specs.Samples.{planeBy}
-use Rattle.standard.specs.Table.{encode}
+use Rattle.standard.specs.Table.{entrySize, encodeEntry}
 use Rattle.standard.specs.Refusals.{First}
 use Rattle.standard.specs.Reasons.{Planes, planeOf, MeansHere, ShortestHere}
-use Rattle.standard.proofs.Cases.{mono, ofLuma, case5}
+use Rattle.standard.proofs.Cases.{mono, ofLuma, everywhere, case5}
 use Rattle.standard.proofs.Decisions.{differ, Verdict, refusal, clear, numberIn, IsRefusal}
 use Rattle.standard.proofs.Judging.{rules?, valid?}
 use Rattle.standard.proofs.Reader.{got-is-meant}
-use Rattle.standard.proofs.Refusing.{not-there, sound?}
+use Rattle.standard.proofs.Refusing.{not-there, sound?, unit-due?}
 use Rattle.standard.proofs.Spelling.{no-bins-at-all}
 use Rattle.promises.specs.World.{World, Call, Open, Read, Write, Deliver, Filter, Rows, refused, set-read, bins-written, rows, Accepted, reasonsOf}
 use Rattle.promises.specs.Contract.{appended, unchanged}
@@ -60,10 +60,10 @@ fourteen =
     ∷ (Deliver 0 0 (replicate 64 256), opened8)
     ∷ (Deliver 0 0 plane8, ready8)
     ∷ (Filter 0 0, half24)
-    ∷ (Filter 0 0, world (mono 8 8) 1 plane8 plane8 (2 ∷ []) (encode edgy))
+    ∷ (Filter 0 0, world (mono 8 8) 1 plane8 plane8 (2 ∷ []) (encodeEntry edgy))
     ∷ (Write strange twoBytes, opened8)
     ∷ (Write edgy (0 ∷ []), opened8)
-    ∷ (Filter 0 0, world (mono 8 8) 1 plane8 plane8 (1 ∷ []) (replicate 18 9))
+    ∷ (Filter 0 0, world (mono 8 8) 1 plane8 plane8 (1 ∷ []) (replicate entrySize 9))
     ∷ []
 
 refusing : (c : Call) (w : World) (n : ℕ) → IsRefusal (verdictOf c w) → numberIn (verdictOf c w) ≡ n → First (reasonsOf c w) n × (ours c w ≡ unchanged c w n)
@@ -99,18 +99,18 @@ read-in-full = (lit≤ tt, means-edgy, refl)
 
 -- with a left neighbour, and with an upper one: the second CTU of two
 abbrev pub beside : World
-beside = world (mono 24 8) 1 (replicate 192 7) (replicate 192 1) (0 ∷ 0 ∷ []) (encode edgy ++ replicate 18 9)
+beside = world (mono 24 8) 1 (replicate 192 7) (replicate 192 1) (0 ∷ 0 ∷ []) (encodeEntry edgy ++ replicate entrySize 9)
 
 abbrev pub below : World
-below = world (mono 8 24) 1 (replicate 192 7) (replicate 192 1) (0 ∷ 0 ∷ []) (encode edgy ++ replicate 18 9)
+below = world (mono 8 24) 1 (replicate 192 7) (replicate 192 1) (0 ∷ 0 ∷ []) (encodeEntry edgy ++ replicate entrySize 9)
 
 pub due-beside : Due beside
 unfolding computing
 due-beside = record {
   rules = holds (rules? (mono 24 8)) tt;
   lengths = record { deblocked = record { y = refl; cb = refl; cr = refl }; filtered = record { y = refl; cb = refl; cr = refl }; marks = refl; table = refl };
-  unit = lit< tt;
-  left = λ n. n (holds (sound? (switchesOf (mono 24 8)) (beside .table) 0) tt);
+  unit = holds (unit-due? (beside .state)) tt;
+  left = λ n. n (holds (sound? (switchesOf (beside .state)) (beside .table) 0) tt);
   above = λ b. b;
 }
 
@@ -119,20 +119,20 @@ unfolding computing
 due-below = record {
   rules = holds (rules? (mono 8 24)) tt;
   lengths = record { deblocked = record { y = refl; cb = refl; cr = refl }; filtered = record { y = refl; cb = refl; cr = refl }; marks = refl; table = refl };
-  unit = lit< tt;
+  unit = holds (unit-due? (below .state)) tt;
   left = λ b. b;
-  above = λ n. n (holds (sound? (switchesOf (mono 8 24)) (below .table) 0) tt);
+  above = λ n. n (holds (sound? (switchesOf (below .state)) (below .table) 0) tt);
 }
 
 pub read-by-merging-left : MeansHere (beside .state) (beside .table) edgy (binsOf (128 ∷ []) 1)
     × (ours (Read (128 ∷ []) 1) beside ≡ record { answer = set-read edgy; out = []; world = appended beside edgy })
 unfolding computing
-read-by-merging-left = (got-is-meant (switchesOf (mono 24 8)) (some edgy) none (binsOf (128 ∷ []) 1) refl, refl)
+read-by-merging-left = (got-is-meant (switchesOf (beside .state)) (some edgy) none (binsOf (128 ∷ []) 1) refl, refl)
 
 pub read-by-merging-up : MeansHere (below .state) (below .table) edgy (binsOf (128 ∷ []) 1)
     × (ours (Read (128 ∷ []) 1) below ≡ record { answer = set-read edgy; out = []; world = appended below edgy })
 unfolding computing
-read-by-merging-up = (got-is-meant (switchesOf (mono 8 24)) none (some edgy) (binsOf (128 ∷ []) 1) refl, refl)
+read-by-merging-up = (got-is-meant (switchesOf (below .state)) none (some edgy) (binsOf (128 ∷ []) 1) refl, refl)
 
 -- ---- writing
 
@@ -154,7 +154,7 @@ room-enough bins s = let h : length bins ≤ 14 = s .least (binsOf edgyBytes edg
 no-bins-mean-it : (bins : List Bool) → ¬ MeansHere (opened8 .state) (opened8 .table) strange bins
 unfolding computing
 no-bins-mean-it =
-    no-bins-at-all (switchesOf (mono 8 8)) none none strange refl (λ e. differ (not-there e)) (λ e. differ (not-there e)) (fails (valid? (switchesOf (mono 8 8)) strange) tt)
+    no-bins-at-all (switchesOf (opened8 .state)) none none strange refl (λ e. differ (not-there e)) (λ e. differ (not-there e)) (fails (valid? (switchesOf (opened8 .state)) strange) tt)
 
 pub refused-with-room : ((bins : List Bool) → ShortestHere (opened8 .state) (opened8 .table) strange bins → length bins ≤ 8 * length twoBytes)
     × (ours (Write strange twoBytes) opened8 .answer ≡ refused 12)
@@ -242,7 +242,7 @@ abbrev pub colours : List ℕ → List ℕ → List ℕ → Planes
 colours y cb cr = record { y = y; cb = cb; cr = cr }
 
 abbrev pub ownColour : Own
-ownColour = record { sets = λ k. colourful; planes = planeOf (colours plane8 (replicate 16 8) (replicate 16 250)) }
+ownColour = record { parameters = everywhere colourful; planes = planeOf (colours plane8 (replicate 16 8) (replicate 16 250)) }
 
 abbrev pub beforeColour : World
 beforeColour = record {
@@ -250,7 +250,7 @@ beforeColour = record {
   deblocked = colours (replicate 64 7) (replicate 16 7) (replicate 16 7);
   filtered = colours (replicate 64 1) (replicate 16 1) (replicate 16 1);
   marks = 9 ∷ 9 ∷ 9 ∷ [];
-  table = replicate 18 9;
+  table = replicate entrySize 9;
 }
 
 abbrev pub callsColour : List Call

@@ -5,13 +5,12 @@ use Prim.Native.Nat.{ℕ, zero, suc, _*_, _/_, _%_, max}
 use native.Mathlib.Decide.{ℕ-discrete}
 use lib.ListN.{set}
 use Rattle.standard.specs.declared.Picture.{Picture}
-use Rattle.standard.specs.declared.Offsets.{Offsets}
 use Rattle.standard.specs.declared.CtuSet.{CtuSet}
 use Rattle.standard.specs.Picture.{planeWidth, planeHeight, rectangle}
-use Rattle.standard.specs.Sets.{switchesOf, componentOf, allOff}
+use Rattle.standard.specs.Sets.{switchesOf, allOff}
 use Rattle.standard.specs.Bins.{bitsOf}
-use Rattle.standard.specs.Samples.{layoutOf, at, sample}
-use Rattle.standard.specs.Table.{stored}
+use Rattle.standard.specs.Samples.{Parameters, at, filteredSample}
+use Rattle.standard.specs.Table.{parametersIn}
 use Rattle.standard.specs.Reasons.{planeOf, markOf, leftSet, upperSet}
 use Rattle.standard.proofs.Codes.{Got, got, short}
 use Rattle.standard.proofs.Rasters.{inside?}
@@ -138,24 +137,24 @@ unfoldable pub readsPastTheCount : Stage
 unfolding ours readCtu
 readsPastTheCount = readingBy (λ bytes count w.
     let r = ours (Read bytes count) w in
-    readOn (r .answer) (readCtu (switchesOf (pictureOf w)) (leftSet (w .state) (w .table)) (upperSet (w .state) (w .table)) (bitsOf bytes)) r w)
+    readOn (r .answer) (readCtu (switchesOf (w .state)) (leftSet (w .state) (w .table)) (upperSet (w .state) (w .table)) (bitsOf bytes)) r w)
 
 -- Version two: CTB k filtered in the plane itself, place after place of the first n, so that a comparison sees what was already changed
-unfoldable pub inPlace : Picture → ℕ → ℕ → Offsets → List ℕ → ℕ → List ℕ
+unfoldable pub inPlace : Picture → Parameters → ℕ → ℕ → List ℕ → ℕ → List ℕ
 unfolding inside?
-inPlace p i k offsets plane zero = plane
-inPlace p i k offsets plane (suc n) =
-    let now = inPlace p i k offsets plane n in
+inPlace p ps i k plane zero = plane
+inPlace p ps i k plane (suc n) =
+    let now = inPlace p ps i k plane n in
     let x = n % planeWidth p i in
     let y = n / planeWidth p i in
-    choose (inside? (rectangle p i k) x y) (set now n (sample (layoutOf p i) offsets now x y)) now
+    choose (inside? (rectangle p i k) x y) (set now n (filteredSample p ps i k now x y)) now
 
 unfoldable pub filtersInPlace : Stage
 unfolding ours inPlace withPlane paintedIn
 filtersInPlace = filteringBy (λ i k w.
     let r = ours (Filter i k) w in
     let p = pictureOf w in
-    let plane = inPlace p i k (componentOf (stored (w .table) k) i) (planeOf (w .deblocked) i) (planeWidth p i * planeHeight p i) in
+    let plane = inPlace p (parametersIn (w .table)) i k (planeOf (w .deblocked) i) (planeWidth p i * planeHeight p i) in
     let v = withFiltered w i k (paintedIn p i k (at plane (planeWidth p i)) (w .filtered)) in
     unlessRefused (r .answer) r (record {
       answer = done;

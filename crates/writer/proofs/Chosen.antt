@@ -7,7 +7,8 @@ use Prim.Native.Nat.{ℕ, _≤_, zero-le}
 use lib.ListN.{length}
 use Rattle.standard.specs.declared.Offsets.the-variants.{Off}
 use Rattle.standard.specs.declared.CtuSet.{CtuSet}
-use Rattle.standard.specs.Sets.{Switches, Ruled, Valid, allOff}
+use Rattle.standard.specs.declared.Switches.{Switches}
+use Rattle.standard.specs.Sets.{Ruled, Valid, allOff}
 use Rattle.standard.specs.Means.{either, anyOn, Means, no-bins, merge-left, merge-up, in-full, Shortest}
 use Rattle.standard.specs.Refusals.{Tells}
 use Rattle.standard.proofs.Decisions.{differ}

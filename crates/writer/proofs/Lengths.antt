@@ -9,7 +9,8 @@ use lib.ListN.{length, length-append}
 use Rattle.standard.specs.declared.Offsets.{Offsets}
 use Rattle.standard.specs.declared.Offsets.the-variants.{Off, Band, Edge}
 use Rattle.standard.specs.declared.CtuSet.{CtuSet}
-use Rattle.standard.specs.Sets.{Switches, most}
+use Rattle.standard.specs.declared.Switches.{Switches}
+use Rattle.standard.specs.Sets.{most}
 use Rattle.standard.specs.Bins.{truncated, fixedLength, magnitudes, signBins, signs, typeBins, rest, restOfCr, when, full}
 use Rattle.standard.proofs.Longest.{fixed-length, signs-length}
 

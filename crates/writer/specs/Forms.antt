@@ -3,7 +3,7 @@ use mathlib.Core.Bool.{Bool, true, false, cond}
 use mathlib.Core.List.{List, [], _∷_, _++_}
 use mathlib.Core.Option.{Option, some, none}
 use Rattle.standard.specs.declared.CtuSet.{CtuSet}
-use Rattle.standard.specs.Sets.{Switches}
+use Rattle.standard.specs.declared.Switches.{Switches}
 use Rattle.standard.specs.Bins.{full}
 use Rattle.standard.specs.Means.{anyOn, notTaken, Means}
 use Rattle.standard.proofs.Judging.{same-set?}

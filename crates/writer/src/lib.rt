@@ -5,15 +5,13 @@ use sink::Put;
 use standard::CtuSet;
 use standard::Near;
 use standard::Offsets;
-use standard::Picture;
+use standard::Switches;
 ghost use mathlib.Core.Path.{_≡_};
 ghost use mathlib.Core.List.{_++_};
 ghost use Prim.Native.Nat.{_≤_, _<_};
 ghost use lib.IntN.{natAbs};
 ghost use lib.ListN.{length};
 ghost use Rattle.standard.specs.declared.Offsets.the-variants.{Band};
-ghost use Rattle.standard.specs.Picture.{Rules};
-ghost use Rattle.standard.specs.Sets.{switchesOf};
 ghost use Rattle.standard.specs.Bins.{truncated, magnitudes, signBins, typeBins, rest, restOfCr, when, full};
 ghost use Rattle.standard.specs.Means.{notTaken};
 ghost use Rattle.standard.proofs.Reader.{setOf};
@@ -163,22 +161,21 @@ fn bins_of_chroma(on: bool, m: u32, cb: Offsets, n: u32, cr: Offsets) -> usize
     0
 }
 
-fn bins_of_full(p: Picture, q: CtuSet) -> usize
-    requires { ⌜ Rules p ⌝ }
-    ensures { λ r. ⌜ (r ≡ length (full (switchesOf p) q)) × (r ≤ 403) ⌝ }
+fn bins_of_full(s: Switches, q: CtuSet) -> usize
+    ensures { λ r. ⌜ (r ≡ length (full s q)) × (r ≤ 403) ⌝ }
 {
     let y = q.luma;
     let cb = q.cb;
     let cr = q.cr;
-    let luma = p.luma;
-    let chroma = p.chroma;
-    let n = bins_of_luma(luma, geometry::most_of(p, 0), y);
+    let luma = s.luma;
+    let chroma = s.chroma;
+    let n = bins_of_luma(luma, geometry::most_of(s, 0), y);
     n
         + bins_of_chroma(
             chroma,
-            geometry::most_of(p, 1),
+            geometry::most_of(s, 1),
             cb,
-            geometry::most_of(p, 2),
+            geometry::most_of(s, 2),
             cr,
         )
 }
@@ -192,15 +189,14 @@ fn bins_of_not_taken(near: Near) -> usize
     }
 }
 
-fn bins_of_form(form: Form, p: Picture, left: Near, up: Near, q: CtuSet) -> usize
-    requires { ⌜ Rules p ⌝ }
-    ensures { λ r. ⌜ (r ≡ length (formBins (switchesOf p) (setOf left) (setOf up) q form)) × (r ≤ 405) ⌝ }
+fn bins_of_form(form: Form, s: Switches, left: Near, up: Near, q: CtuSet) -> usize
+    ensures { λ r. ⌜ (r ≡ length (formBins s (setOf left) (setOf up) q form)) × (r ≤ 405) ⌝ }
 {
     match form {
         Form::Empty => 0,
         Form::Left => 1,
         Form::Up => bins_of_not_taken(left) + 1,
-        Form::Full => bins_of_not_taken(left) + bins_of_not_taken(up) + bins_of_full(p, q),
+        Form::Full => bins_of_not_taken(left) + bins_of_not_taken(up) + bins_of_full(s, q),
     }
 }
 
@@ -217,10 +213,10 @@ fn is_copy(near: Near, q: CtuSet) -> bool
 
 // A merge to the left has one bin, so it goes before a merge upwards, which has two where there is a
 // left neighbour.
-fn choose(p: Picture, left: Near, up: Near, q: CtuSet) -> Form
-    ensures { λ r. ⌜ r ≡ chosen (switchesOf p) (setOf left) (setOf up) q ⌝ }
+fn choose(s: Switches, left: Near, up: Near, q: CtuSet) -> Form
+    ensures { λ r. ⌜ r ≡ chosen s (setOf left) (setOf up) q ⌝ }
 {
-    if !geometry::any_on(p) {
+    if !geometry::any_on(s) {
         return Form::Empty;
     }
     if is_copy(left, q) {
@@ -233,13 +229,13 @@ fn choose(p: Picture, left: Near, up: Near, q: CtuSet) -> Form
 }
 
 // Whether some bins mean the set: it is within the rules, or a merge copies it.
-pub fn has_bins(p: Picture, left: Near, up: Near, q: CtuSet) -> bool
-    ensures { λ r. ⌜ Tells (Meant (switchesOf p) (setOf left) (setOf up) q) r ⌝ }
+pub fn has_bins(s: Switches, left: Near, up: Near, q: CtuSet) -> bool
+    ensures { λ r. ⌜ Tells (Meant s (setOf left) (setOf up) q) r ⌝ }
 {
-    if sets::is_valid(p, q) {
+    if sets::is_valid(s, q) {
         return true;
     }
-    if !geometry::any_on(p) {
+    if !geometry::any_on(s) {
         return false;
     }
     let copied = is_copy(left, q);
@@ -261,31 +257,29 @@ fn put_not_taken(c: Put, out: &mut [u8], near: Near) -> Put
     }
 }
 
-fn put_full(c: Put, out: &mut [u8], p: Picture, q: CtuSet) -> Put
-    requires { ⌜ Room (c .at) (length (full (switchesOf p) q)) (now out) ⌝ }
-    requires { ⌜ Rules p ⌝ }
-    ensures { λ r. ⌜ Puts (c .at) (full (switchesOf p) q) (now (out .entry)) (now (out .exit)) (r .at) ⌝ }
+fn put_full(c: Put, out: &mut [u8], s: Switches, q: CtuSet) -> Put
+    requires { ⌜ Room (c .at) (length (full s q)) (now out) ⌝ }
+    ensures { λ r. ⌜ Puts (c .at) (full s q) (now (out .entry)) (now (out .exit)) (r .at) ⌝ }
 {
     let y = q.luma;
     let cb = q.cb;
     let cr = q.cr;
-    let luma = p.luma;
-    let chroma = p.chroma;
-    let c1 = c.luma(out, luma, geometry::most_of(p, 0), y);
+    let luma = s.luma;
+    let chroma = s.chroma;
+    let c1 = c.luma(out, luma, geometry::most_of(s, 0), y);
     c1.chroma(
         out,
         chroma,
-        geometry::most_of(p, 1),
+        geometry::most_of(s, 1),
         cb,
-        geometry::most_of(p, 2),
+        geometry::most_of(s, 2),
         cr,
     )
 }
 
-fn put_form(c: Put, out: &mut [u8], form: Form, p: Picture, left: Near, up: Near, q: CtuSet) -> Put
-    requires { ⌜ Room (c .at) (length (formBins (switchesOf p) (setOf left) (setOf up) q form)) (now out) ⌝ }
-    requires { ⌜ Rules p ⌝ }
-    ensures { λ r. ⌜ Puts (c .at) (formBins (switchesOf p) (setOf left) (setOf up) q form) (now (out .entry)) (now (out .exit)) (r .at) ⌝ }
+fn put_form(c: Put, out: &mut [u8], form: Form, s: Switches, left: Near, up: Near, q: CtuSet) -> Put
+    requires { ⌜ Room (c .at) (length (formBins s (setOf left) (setOf up) q form)) (now out) ⌝ }
+    ensures { λ r. ⌜ Puts (c .at) (formBins s (setOf left) (setOf up) q form) (now (out .entry)) (now (out .exit)) (r .at) ⌝ }
 {
     match form {
         Form::Empty => c,
@@ -297,20 +291,19 @@ fn put_form(c: Put, out: &mut [u8], form: Form, p: Picture, left: Near, up: Near
         Form::Full => {
             let c1 = put_not_taken(c, out, left);
             let c2 = put_not_taken(c1, out, up);
-            put_full(c2, out, p, q)
+            put_full(c2, out, s, q)
         }
     }
 }
 
-pub fn write_set(p: Picture, left: Near, up: Near, q: CtuSet, out: &mut [u8]) -> Wrote
-    requires { ⌜ Rules p ⌝ }
-    ensures { λ r. ⌜ Writes (written (switchesOf p) (setOf left) (setOf up) q) (now (out .entry)) (now (out .exit)) r ⌝ }
+pub fn write_set(s: Switches, left: Near, up: Near, q: CtuSet, out: &mut [u8]) -> Wrote
+    ensures { λ r. ⌜ Writes (written s (setOf left) (setOf up) q) (now (out .entry)) (now (out .exit)) r ⌝ }
 {
-    let form = choose(p, left, up, q);
-    let n = bins_of_form(form, p, left, up, q);
+    let form = choose(s, left, up, q);
+    let n = bins_of_form(form, s, left, up, q);
     if (n + 7) / 8 > out.len() {
         return Wrote::NoRoom;
     }
-    put_form(Put { at: 0 }, out, form, p, left, up, q);
+    put_form(Put { at: 0 }, out, form, s, left, up, q);
     Wrote::Bins(n)
 }

@@ -6,16 +6,17 @@ use mathlib.Core.Logic.{inl, inr, ⊎-elim}
 use mathlib.Core.Option.{Option}
 use Prim.Native.Nat.{ℕ, _*_, _≤_, _<_}
 use native.Mathlib.Omega.{arith}
-use lib.ListN.{length, drop}
+use lib.ListN.{length}
 use Rattle.standard.specs.declared.CtuSet.{CtuSet}
 use Rattle.standard.specs.declared.State.{State}
 use Rattle.standard.specs.declared.Refusal.the-variants.{NoBins, NoRoom, Stored}
 use Rattle.standard.specs.declared.WriteAnswer.{WriteAnswer}
 use Rattle.standard.specs.declared.WriteAnswer.the-variants.{Bins, Refused}
-use Rattle.standard.specs.Picture.{leftOf, aboveOf}
-use Rattle.standard.specs.Sets.{Switches, switchesOf}
+use Rattle.standard.specs.Picture.{mergeLeft, mergeUp}
+use Rattle.standard.specs.declared.Switches.{Switches}
+use Rattle.standard.specs.Sets.{switchesOf}
 use Rattle.standard.specs.Means.{Means, Shortest}
-use Rattle.standard.specs.Reasons.{due, leftSet, upperSet, NeighbourOutsideTheRules, writeReasons}
+use Rattle.standard.specs.Reasons.{leftSet, upperSet, NeighbourOutsideTheRules, setReasons}
 use Rattle.standard.specs.Contracts.{WriteDecides, Wrote}
 use Rattle.writer.specs.declared.Wrote.the-variants as wrote
 use Rattle.writer.specs.Forms.{Meant, written}
@@ -42,24 +43,24 @@ module _ (s : Switches) (left up : Option CtuSet) (q : CtuSet) (out out′ : Lis
 
 module _ (s : State) (q : CtuSet) (out table out′ : List ℕ) where
   abbrev Answers : WriteAnswer → Type 0
-  Answers r = WriteDecides (drop 4 (writeReasons s q out table)) r (λ n. Wrote s q out table n out′) (out′ ≡ out)
+  Answers r = WriteDecides (setReasons s q out table) r (λ n. Wrote s q out table n out′) (out′ ≡ out)
 
-  pub left-bad : NeighbourOutsideTheRules s table (leftOf (s .picture) (due s)) → out′ ≡ out → Answers (Refused Stored)
+  pub left-bad : NeighbourOutsideTheRules s table (mergeLeft s) → out′ ≡ out → Answers (Refused Stored)
   left-bad h same = (inl (inl h, refl), same)
 
-  pub up-bad : NeighbourOutsideTheRules s table (aboveOf (s .picture) (due s)) → out′ ≡ out → Answers (Refused Stored)
+  pub up-bad : NeighbourOutsideTheRules s table (mergeUp s) → out′ ≡ out → Answers (Refused Stored)
   up-bad h same = (inl (inr h, refl), same)
 
-  answers : ¬ NeighbourOutsideTheRules s table (leftOf (s .picture) (due s)) → ¬ NeighbourOutsideTheRules s table (aboveOf (s .picture) (due s))
-      → (r : WriteAnswer) → SetWritten (switchesOf (s .picture)) (leftSet s table) (upperSet s table) q out out′ r → Answers r
+  answers : ¬ NeighbourOutsideTheRules s table (mergeLeft s) → ¬ NeighbourOutsideTheRules s table (mergeUp s)
+      → (r : WriteAnswer) → SetWritten (switchesOf s) (leftSet s table) (upperSet s table) q out out′ r → Answers r
   answers l u (Bins n) (clear, (bins, shortest, number, bytes)) =
       ((⊎-elim l u, clear), record { bins = bins; shortest = shortest; number = number; bytes = bytes })
   answers l u (Refused r) (first, same) = (inr (⊎-elim l u, first), same)
 
   -- the sets that were found are the definitions'
   pub beside : {left up : Option CtuSet}
-      → (left ≡ leftSet s table) × (¬ NeighbourOutsideTheRules s table (leftOf (s .picture) (due s)))
-      → (up ≡ upperSet s table) × (¬ NeighbourOutsideTheRules s table (aboveOf (s .picture) (due s)))
-      → (r : WriteAnswer) → SetWritten (switchesOf (s .picture)) left up q out out′ r → Answers r
+      → (left ≡ leftSet s table) × (¬ NeighbourOutsideTheRules s table (mergeLeft s))
+      → (up ≡ upperSet s table) × (¬ NeighbourOutsideTheRules s table (mergeUp s))
+      → (r : WriteAnswer) → SetWritten (switchesOf s) left up q out out′ r → Answers r
   beside l u r h =
-      answers (l .1) (u .1) r (subst₂ (λ (m n : Option CtuSet). SetWritten (switchesOf (s .picture)) m n q out out′ r) (l .0) (u .0) h)
+      answers (l .1) (u .1) r (subst₂ (λ (m n : Option CtuSet). SetWritten (switchesOf s) m n q out out′ r) (l .0) (u .0) h)

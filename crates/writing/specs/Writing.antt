@@ -8,7 +8,7 @@ use lib.ListN.{length}
 use Rattle.standard.specs.declared.CtuSet.{CtuSet}
 use Rattle.standard.specs.declared.State.{State}
 use Rattle.standard.specs.declared.WriteAnswer.{WriteAnswer}
-use Rattle.standard.specs.Sets.{Switches}
+use Rattle.standard.specs.declared.Switches.{Switches}
 use Rattle.standard.specs.Bins.{packed}
 use Rattle.standard.specs.Means.{Means, Shortest}
 use Rattle.standard.proofs.Reader.{setOf}
@@ -24,9 +24,9 @@ abbrev pub Beside : State → List ℕ → Option ℕ → Side → Type 0
 Beside s table k (Near n) = (setOf n ≡ storedAt table k) × (¬ NeighbourOutsideTheRules s table k)
 Beside s table k Bad = NeighbourOutsideTheRules s table k
 
--- the last two of `writeReasons`, of the neighbours' sets
-abbrev pub setReasons : Switches → Option CtuSet → Option CtuSet → CtuSet → List ℕ → List Reason
-setReasons s left up q out =
+-- the reasons of the set alone, where the neighbours' sets are these
+abbrev pub spellingReasons : Switches → Option CtuSet → Option CtuSet → CtuSet → List ℕ → List Reason
+spellingReasons s left up q out =
     (12 if ((bins : List Bool) → ¬ Means s left up q bins))
     ∷ (13 if ((bins : List Bool) × Shortest s left up q bins × (8 * length out < length bins)))
     ∷ []
@@ -36,4 +36,4 @@ abbrev pub Spelled : Switches → Option CtuSet → Option CtuSet → CtuSet →
 Spelled s left up q out out′ n = (bins : List Bool) × Shortest s left up q bins × (n ≡ length bins) × (out′ ≡ packed bins out)
 
 abbrev pub SetWritten : Switches → Option CtuSet → Option CtuSet → CtuSet → List ℕ → List ℕ → WriteAnswer → Type 0
-SetWritten s left up q out out′ r = WriteDecides (setReasons s left up q out) r (Spelled s left up q out out′) (out′ ≡ out)
+SetWritten s left up q out out′ r = WriteDecides (spellingReasons s left up q out) r (Spelled s left up q out out′) (out′ ≡ out)

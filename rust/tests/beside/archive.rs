@@ -6,13 +6,13 @@
 
 use crate::call::{Call, Returned};
 use crate::lent::{BYTE_GUARD, Fence, Guarded, Memory, SAMPLE_GUARD, lent_difference};
-use second::table::ENTRY;
+use second::table::SET_BYTES;
 use steamgusset::ffi::{self, Rows, State};
 
 /// What is lent to one call alone.
 struct Own {
     state: Guarded<State>,
-    set: Guarded<[u8; ENTRY]>,
+    set: Guarded<[u8; SET_BYTES]>,
     out: Guarded<u8>,
     count: Guarded<usize>,
     finished: Guarded<Rows>,
@@ -29,7 +29,7 @@ impl Own {
         };
         Own {
             state: Guarded::holding(&[before.state], State::default(), fence),
-            set: Guarded::holding(&[before.set], [BYTE_GUARD; ENTRY], fence),
+            set: Guarded::holding(&[before.set], [BYTE_GUARD; SET_BYTES], fence),
             out: Guarded::holding(&before.out, BYTE_GUARD, fence),
             count: Guarded::holding(&[before.count], 0, fence),
             finished: Guarded::holding(&[before.finished], Rows::default(), fence),

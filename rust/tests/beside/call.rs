@@ -1,6 +1,6 @@
 //! The calls as they cross the boundary: numbers of the boundary's own types, sets as bytes.
 
-use second::table::ENTRY;
+use second::table::SET_BYTES;
 use steamgusset::ffi::{Rows, State};
 
 /// A call with what it is handed besides the state and the world.
@@ -8,7 +8,7 @@ use steamgusset::ffi::{Rows, State};
 pub enum Call {
     Open,
     Read { bins: Vec<u8>, count: usize },
-    Write { set: [u8; ENTRY], out: Vec<u8> },
+    Write { set: [u8; SET_BYTES], out: Vec<u8> },
     Deliver { component: u32, ctb: u32, samples: Vec<u16> },
     Filter { component: u32, ctb: u32 },
     FinishedRows { component: u32 },
@@ -78,7 +78,7 @@ pub struct Returned {
     pub number: u32,
     pub state: State,
     /// The set that read leaves, or the one that write was handed.
-    pub set: [u8; ENTRY],
+    pub set: [u8; SET_BYTES],
     /// The room lent to write.
     pub out: Vec<u8>,
     pub count: usize,
@@ -86,7 +86,7 @@ pub struct Returned {
 }
 
 /// What stands in lent memory that a call is to fill, so that a write to it by a refusal shows.
-const SET_BEFORE: [u8; ENTRY] = [0xEB; ENTRY];
+const SET_BEFORE: [u8; SET_BYTES] = [0xEB; SET_BYTES];
 const COUNT_BEFORE: usize = usize::MAX / 3;
 const FINISHED_BEFORE: Rows = Rows { rows: usize::MAX / 5, samples: usize::MAX / 7 };
 

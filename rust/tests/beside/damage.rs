@@ -6,7 +6,7 @@ use crate::judge::in_byte;
 use crate::spoil::{above, set_byte, wrong_length};
 use Damage::*;
 use second::generate;
-use second::table::{self, ENTRY};
+use second::table::{self, ENTRY_BYTES};
 use second::{Picture, World};
 use steamgusset::ffi::State;
 
@@ -161,7 +161,7 @@ impl Draw {
         let (left, above) = (picture.left_of(ctu).unwrap_or(any), picture.above(ctu).unwrap_or(any));
         let entries = if reads { [left, above, any] } else { [ctu, ctu, left] };
         let entry = self.random().pick(&entries);
-        if let Some(bytes) = table.get_mut(entry * ENTRY..(entry + 1) * ENTRY) {
+        if let Some(bytes) = table.get_mut(entry * ENTRY_BYTES..(entry + 1) * ENTRY_BYTES) {
             self.changed_entry(&picture, bytes);
         }
     }
@@ -178,7 +178,7 @@ impl Draw {
                     Picture { format: 1, depth: random.pick(&[8, 9, 10]), luma: true, chroma: true, ..*picture };
                 entry.copy_from_slice(&table::encode(&generate::set(random, &other)));
             }
-            _ => entry[random.below(ENTRY)] = set_byte(random, most),
+            _ => entry[random.below(ENTRY_BYTES)] = set_byte(random, most),
         }
     }
 

@@ -4,7 +4,7 @@ use crate::draw::Draw;
 use crate::judge::{crossing, held, in_byte};
 use crate::lent::{Fence, Guarded};
 use second::random::Random;
-use second::table::ENTRY;
+use second::table::ENTRY_BYTES;
 use second::{Picture, State};
 use std::collections::BTreeMap;
 use std::fmt::Debug;
@@ -42,7 +42,7 @@ fn sizes(picture: &Picture) -> Sizes {
         rows: picture.rows(),
         ctus: picture.ctus(),
         marks: picture.marks(),
-        table: picture.ctus() * ENTRY,
+        table: picture.ctus() * ENTRY_BYTES,
     }
 }
 

@@ -5,7 +5,7 @@
 
 use crate::call::{Call, Returned};
 use second::reasons::{self, Reason};
-use second::table::{self, ENTRY};
+use second::table::{self, SET_BYTES};
 use second::{ComponentSet, CtuSet, Picture, State, Value, World, apply};
 use steamgusset::ffi;
 
@@ -90,8 +90,8 @@ fn said(call: &Call) -> second::Call {
     }
 }
 
-/// The set that 18 bytes say.
-fn set_said(bytes: &[u8; ENTRY]) -> CtuSet {
+/// The set that its bytes say.
+fn set_said(bytes: &[u8; SET_BYTES]) -> CtuSet {
     let part = |component: usize| component_said(&bytes[component * 6..][..6]);
     CtuSet::of([part(0), part(1), part(2)])
 }

@@ -3,7 +3,7 @@
 use crate::call::Call;
 use crate::draw::Draw;
 use second::random::Random;
-use second::table::ENTRY;
+use second::table::{ENTRY_BYTES, SET_BYTES};
 
 impl Draw {
     /// The call with one thing in it changed, mostly for the worse.
@@ -49,12 +49,12 @@ impl Draw {
     }
 
     /// Bytes that encode no set or one outside the rules; room that is short by one byte or by much.
-    fn spoiled_set(&mut self, mut set: [u8; ENTRY], mut out: Vec<u8>) -> Call {
+    fn spoiled_set(&mut self, mut set: [u8; SET_BYTES], mut out: Vec<u8>) -> Call {
         let most = self.picture().largest_magnitude();
         let random = self.random();
         match random.below(6) {
             0 | 1 => {
-                let place = random.below(ENTRY);
+                let place = random.below(SET_BYTES);
                 set[place] = set_byte(random, most);
             }
             2 => set[6 * random.below(3)] = random.pick(&[0, 1, 2, 3, 4, 255]),
@@ -121,11 +121,11 @@ pub fn above(random: &mut Random, largest: u16) -> u16 {
     random.pick(&[largest.saturating_add(1), any, largest | 1 << 15, u16::MAX])
 }
 
-/// A length wrong by one or by much.
+/// A length wrong by one, by an entry of the table, or by much.
 pub fn wrong_length<T: Copy + Default>(random: &mut Random, of: &mut Vec<T>) {
     let length = of.len();
     let shorter = random.pick(&[length.saturating_sub(1), length / 2, 0]);
-    let longer = random.pick(&[length + 1, length + 18, 2 * length]);
+    let longer = random.pick(&[length + 1, length + ENTRY_BYTES, 2 * length]);
     let wrong = if random.once_in(2) { shorter } else { longer };
     // Half of nothing, and twice nothing, are nothing.
     of.resize(if wrong == length { length + 1 } else { wrong }, T::default());

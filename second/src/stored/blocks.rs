@@ -1,10 +1,11 @@
 //! Blocks filtered, one to a record.
 //!
-//! Method: a record names its plane, its block and its set, and eight bytes from which both programs make the same
-//! deblocked samples, so that none has to be stored. Depths, types, classes and manners of samples are gone through in
-//! all combinations.
+//! Method: a record names its plane, its block, its set and which of the eight blocks around are barred, and eight bytes
+//! from which both programs make the same deblocked samples, so that none has to be stored. Depths, types, classes and
+//! manners of samples are gone through in all combinations, and so are shapes of blocks, classes and single bars. Whether
+//! a sample is compared with what is barred is asked of each sample by itself, by the side that its neighbour lies on.
 
-use crate::filter::{Plane, filtered_sample};
+use crate::filter::{NEIGHBOURS, Plane, filtered_sample};
 use crate::generate;
 use crate::picture::{Block, Picture};
 use crate::random::Random;
@@ -16,6 +17,16 @@ const SHOWN: usize = 48;
 
 /// How often the combinations are gone through.
 const TIMES: usize = 9;
+
+/// The samples that the proved program has room for in a plane.
+pub const PLANE: usize = 130 * 130;
+
+/// Widths and heights of blocks: CTBs of each size, those that the picture's border cuts off, and the thinnest.
+pub const SHAPES: [(usize, usize); 10] =
+    [(64, 64), (32, 32), (16, 16), (8, 16), (16, 8), (1, 24), (24, 1), (2, 3), (64, 2), (1, 1)];
+
+/// The bits that bar the blocks around, by rows: northwest, north, northeast, then west and east, then the three below.
+const BARS: [[u8; 3]; 3] = [[1, 2, 4], [8, 0, 16], [32, 64, 128]];
 
 /// How the samples of a plane are drawn: the number is the manner's in a record.
 #[derive(Clone, Copy, Debug, PartialEq, Eq)]
@@ -40,6 +51,8 @@ pub struct Record {
     pub depth: u8,
     pub block: Block,
     pub set: ComponentSet,
+    /// The blocks around that are barred, a bit of [`BARS`] each.
+    pub bars: u8,
     pub manner: Manner,
     pub source: [u8; 8],
     pub shown: bool,
@@ -52,6 +65,11 @@ fn next(mut x: u32) -> u32 {
     x ^ (x << 5)
 }
 
+/// 0 before a block, 1 within it, 2 after it.
+fn side(at: i64, first: usize, end: usize) -> usize {
+    usize::from(at >= first as i64) + usize::from(at >= end as i64)
+}
+
 impl Record {
     /// Its bytes, as crates/blocks describes them.
     pub fn bytes(&self) -> [u8; 24] {
@@ -62,8 +80,8 @@ impl Record {
         let (width, height, manner) = (self.width as u8, self.height as u8, self.manner as u8);
         let shown = self.shown.into();
         [
-            width, height, self.depth, manner, x0, x1, y0, y1, kind, place, a, b, c, d, shown, 0, s0, s1, s2, s3, s4,
-            s5, s6, s7,
+            width, height, self.depth, manner, x0, x1, y0, y1, kind, place, a, b, c, d, shown, self.bars, s0, s1, s2,
+            s3, s4, s5, s6, s7,
         ]
     }
 
@@ -100,9 +118,25 @@ impl Record {
         let plane = Plane { samples, width: self.width };
         let mut filtered = vec![u16::MAX; samples.len()];
         for (x, y) in self.block.places() {
-            filtered[y * self.width + x] = filtered_sample(self.depth, &self.set, &plane, x, y);
+            // Category 0 changes nothing, and neither does off.
+            let set = if self.compares_barred(x, y) { ComponentSet::Off } else { self.set };
+            filtered[y * self.width + x] = filtered_sample(self.depth, &set, &plane, x, y);
         }
         filtered
+    }
+
+    /// Whether a sample of the block would be compared with one of a barred block.
+    fn compares_barred(&self, x: usize, y: usize) -> bool {
+        let ComponentSet::Edge { class, .. } = self.set else {
+            return false;
+        };
+        NEIGHBOURS[usize::from(class)].iter().any(|(dx, dy)| self.is_barred(x as i64 + dx, y as i64 + dy))
+    }
+
+    /// Whether a place lies in a barred block.
+    fn is_barred(&self, x: i64, y: i64) -> bool {
+        let Block { left, right, top, bottom } = self.block;
+        self.bars & BARS[side(y, top, bottom)][side(x, left, right)] != 0
     }
 
     /// The line that it must give: two sums, and where asked for the samples.
@@ -127,6 +161,7 @@ pub fn records() -> Vec<Record> {
         let shown = records.len() < SHOWN;
         records.push(any_block(&mut random, manner, kind, depth, shown));
     }
+    records.extend(SHAPES.iter().flat_map(|&shape| barred(&mut random, shape)));
     records
 }
 
@@ -145,6 +180,7 @@ fn document() -> Vec<Record> {
         depth: 8,
         block: Block { left: 0, top: 0, right: 8, bottom: 1 },
         set,
+        bars: 0,
         manner: Manner::Bytes,
         source,
         shown: true,
@@ -157,25 +193,92 @@ fn document() -> Vec<Record> {
     ]
 }
 
-/// Some CTB of some picture of at most 72x24, of at most 16x8 where its samples are printed.
+/// A plane and a block in it.
+struct Placed {
+    width: usize,
+    height: usize,
+    block: Block,
+}
+
+/// Some block, of a plane of at most 16x8 where its samples are printed; sometimes with blocks around it barred.
 fn any_block(random: &mut Random, manner: Manner, kind: u8, depth: u8, shown: bool) -> Record {
-    let (wide, high) = if shown { (2, 1) } else { (9, 3) };
-    let mut side = |most: usize| 8 * (1 + random.below(most) as u32);
+    let placed = match (shown, random.below(2)) {
+        (true, _) => some_ctb(random, 16, 8),
+        (_, 0) => some_ctb(random, 128, 128),
+        _ => {
+            let shape = random.pick(&SHAPES);
+            within(random, shape, &[0, 0, 1, 5])
+        }
+    };
+    let set = any_set(random, largest_magnitude(depth), kind);
+    let bars = any_bars(random);
+    record(random, placed, depth, set, bars, manner, shown)
+}
+
+fn record(
+    random: &mut Random,
+    placed: Placed,
+    depth: u8,
+    set: ComponentSet,
+    bars: u8,
+    manner: Manner,
+    shown: bool,
+) -> Record {
+    let Placed { width, height, block } = placed;
+    Record { width, height, depth, block, set, bars, manner, source: any_source(random, width), shown }
+}
+
+fn of_depth(depth: u8) -> Picture {
+    Picture { width: 8, height: 8, ctb: 16, format: 0, depth, luma: true, chroma: false }
+}
+
+fn largest_magnitude(depth: u8) -> u8 {
+    of_depth(depth).largest_magnitude()
+}
+
+/// Some CTB of some picture, whose luma is at most so wide and high.
+fn some_ctb(random: &mut Random, wide: usize, high: usize) -> Placed {
+    let mut side = |most: usize| 8 * (1 + random.below(most / 8) as u32);
     let (width, height) = (side(wide), side(high));
     let (ctb, format) = (random.pick(&[16, 16, 32, 64]), random.pick(&[0, 1]));
-    let picture = Picture { width, height, ctb, format, depth, luma: true, chroma: format == 1 };
+    let picture = Picture { width, height, ctb, format, chroma: format == 1, ..of_depth(8) };
     let component = random.below(picture.components());
-    let width = picture.plane_width(component);
-    Record {
-        width,
+    Placed {
+        width: picture.plane_width(component),
         height: picture.plane_height(component),
-        depth,
         block: picture.block(component, random.below(picture.ctus())),
-        set: any_set(random, picture.largest_magnitude(), kind),
-        manner,
-        source: any_source(random, width),
-        shown,
     }
+}
+
+/// A block of this shape in a plane, with one of these margins on each side.
+fn within(random: &mut Random, (wide, high): (usize, usize), margins: &[usize]) -> Placed {
+    let [left, top, right, bottom] = std::array::from_fn(|_| random.pick(margins));
+    let block = Block { left, top, right: left + wide, bottom: top + high };
+    Placed { width: block.right + right, height: block.bottom + bottom, block }
+}
+
+/// Most often none or a single one.
+fn any_bars(random: &mut Random) -> u8 {
+    let single = 1 << random.below(8);
+    let any = random.number() as u8;
+    random.pick(&[0, 0, 0, single, single, any])
+}
+
+/// Blocks of this shape with plane on all sides, by every class: each block around barred alone, none, all, and some.
+fn barred(random: &mut Random, shape: (usize, usize)) -> Vec<Record> {
+    let some: [u8; 4] = std::array::from_fn(|_| random.number() as u8);
+    let bars: Vec<u8> = (0..8).map(|place| 1 << place).chain([0, u8::MAX]).chain(some).collect();
+    let of_class = |class: u8| bars.iter().map(move |&bars| (class, bars));
+    (0..4).flat_map(of_class).map(|(class, bars)| edge_barred(random, shape, class, bars)).collect()
+}
+
+/// Samples that differ from most of their neighbours, and offsets that move every category.
+fn edge_barred(random: &mut Random, shape: (usize, usize), class: u8, bars: u8) -> Record {
+    let placed = within(random, shape, &[1, 1, 2, 33]);
+    let depth = 8 + random.below(9) as u8;
+    let manner = random.pick(&[Manner::Noise, Manner::FewLevels, Manner::Bytes]);
+    let set = ComponentSet::Edge { class, offsets: [3, 2, -1, -4] };
+    record(random, placed, depth, set, bars, manner, false)
 }
 
 /// Off, three bands, and an edge of each class; one time in eight with any offsets at all.

@@ -8,7 +8,7 @@ use crate::generate;
 use crate::picture::Picture;
 use crate::random::Random;
 use crate::sets::{ComponentSet, CtuSet};
-use crate::table::{self, ENTRY};
+use crate::table::{self, ENTRY_BYTES};
 
 /// The bytes of bins that a record holds, and room for as many.
 const BODY: usize = 56;
@@ -18,7 +18,7 @@ const HEAD: usize = 72;
 /// What stands where a record has nothing to say, so that whoever looks there is found out.
 const NOTHING: u8 = 0x5A;
 
-type Entry = [u8; ENTRY];
+type Entry = [u8; ENTRY_BYTES];
 
 /// One CTU to be read or written. Sets are entries of the table, so that unsound ones can be handed in.
 #[derive(Clone, Debug, PartialEq, Eq)]
@@ -40,7 +40,7 @@ impl Record {
     pub fn bytes(&self) -> Vec<u8> {
         let Picture { width, height, ctb, format, depth, luma, chroma } = self.picture;
         let (set, count, lent) = match &self.call {
-            Call::Read { bins, count } => ([NOTHING; ENTRY], *count, bins),
+            Call::Read { bins, count } => ([NOTHING; ENTRY_BYTES], *count, bins),
             Call::Write { set, room } => (*set, 0, room),
         };
         assert!(lent.len() <= BODY, "a record holds {BODY} bytes of bins");
@@ -48,7 +48,7 @@ impl Record {
         let pair = |number: u32| (number as u16).to_le_bytes();
         let mut bytes = Vec::with_capacity(HEAD + BODY);
         for entry in [self.left, self.up, Some(set)] {
-            bytes.extend(entry.unwrap_or([NOTHING; ENTRY]));
+            bytes.extend(entry.unwrap_or([NOTHING; ENTRY_BYTES]));
         }
         bytes.extend(flags.map(u8::from));
         bytes.extend([format, depth, luma.into(), chroma.into(), 0]);
@@ -294,7 +294,7 @@ fn with_a_damaged_entry(random: &mut Random, record: &Record) -> Record {
     let mut entries: Vec<&mut Entry> = entries.into_iter().flatten().collect();
     let which = random.below(entries.len().max(1));
     if let Some(entry) = entries.get_mut(which) {
-        let byte = &mut entry[random.below(ENTRY)];
+        let byte = &mut entry[random.below(ENTRY_BYTES)];
         *byte = random.pick(&[byte.wrapping_add(1), byte.wrapping_sub(1), *byte ^ 128, 3, 32]);
     }
     damaged

@@ -4,21 +4,31 @@
 //! such as the proved program can make itself. Beside it a [`Machine`] is kept, so that calls can be drawn that are due.
 //! A damage is laid out in commands before its call, and taken back after it, so that most runs come to their end.
 
-use super::{Command, Machine, Samples, xorshift};
+use super::{Command, Machine, PLANE, Samples, xorshift};
 use crate::picture::{Picture, State};
 use crate::random::Random;
+use crate::reasons;
 use crate::replay::blocks;
 use crate::runs::Script;
 use crate::sets::CtuSet;
-use crate::table::ENTRY;
+use crate::table::ENTRY_BYTES;
 use crate::world::{Call, World};
 use std::collections::BTreeMap;
 
-/// How many runs are stored, case 10 besides.
-const RUNS: usize = 190;
+/// How many runs on small pictures are stored.
+const SMALL: usize = 110;
 
-/// A run of this many calls is cut short.
-const MOST_CALLS: usize = 110;
+/// The depths of the larger pictures: the least, with M at its largest, with offsets scaled, and the largest.
+pub const DEPTHS: [u8; 4] = [8, 10, 12, 16];
+
+/// How many larger pictures there are of each CTB size, format and depth.
+const TIMES: usize = 2;
+
+/// A run of so many calls is cut short: on a small picture, on a larger one, and on one of 64 CTUs.
+const MOST_CALLS: [usize; 3] = [110, 220, 900];
+
+/// A damage of more places is laid out in part.
+const MOST_POKES: usize = 24;
 
 /// The six calls.
 #[derive(Clone, Copy, Debug, PartialEq, Eq, PartialOrd, Ord)]
@@ -48,14 +58,51 @@ impl Kind {
 
 /// All commands, run after run.
 pub fn commands() -> Vec<Command> {
+    let [few, more, most] = MOST_CALLS;
     let mut commands = case_10();
-    let small = (0..).filter_map(|seed| Script::new(seed, 40).ok()).filter(|script| fits(&script.picture));
-    commands.extend(small.take(RUNS).flat_map(|script| Run::of(script).commands));
+    commands.extend(small().flat_map(|script| Run::of(script, few).commands));
+    commands.extend(larger().flat_map(|script| Run::of(script, more).commands));
+    commands.extend(many_ctus().flat_map(|script| Run::of(script, most).commands));
     commands
 }
 
-fn fits(picture: &Picture) -> bool {
-    picture.width * picture.height <= 40 * 24 && picture.ctus() <= 6
+/// Pictures of a few CTBs and any depth, of which most runs come to their end.
+fn small() -> impl Iterator<Item = Script> {
+    let fits = |picture: &Picture| picture.width * picture.height <= 40 * 24 && picture.ctus() <= 6;
+    let scripts = (0..).filter_map(|seed| Script::new(seed, 40).ok());
+    scripts.filter(move |script| fits(&script.picture)).take(SMALL)
+}
+
+/// Pictures of every CTB size, in two rows of two or three CTUs, the last of them cut short.
+fn larger() -> impl Iterator<Item = Script> {
+    let formats = [16, 32, 64].into_iter().flat_map(|ctb| [0, 1].map(|format| (ctb, format)));
+    let kinds = formats.flat_map(|(ctb, format)| DEPTHS.map(|depth| (ctb, format, depth)));
+    let kinds = kinds.flat_map(|kind| [kind; TIMES]).enumerate();
+    kinds.filter_map(|(number, (ctb, format, depth))| {
+        let mut random = Random::new(1000 + number as u64);
+        let picture = cut_short(&mut random, ctb, format, depth);
+        Script::of(random, picture).ok()
+    })
+}
+
+/// A picture whose last column and row are cut short, of fewer samples than a plane holds, so that a length can be too large.
+fn cut_short(random: &mut Random, ctb: u32, format: u8, depth: u8) -> Picture {
+    loop {
+        let mut side = |whole: u32| whole * ctb + 8 * (1 + random.below(ctb as usize / 8 - 1) as u32);
+        let (width, height) = (side(1), side(1));
+        let width = width + random.pick(&[0, ctb]);
+        if ((width * height) as usize) < PLANE {
+            let switches = random.pick(&[(true, true), (true, true), (true, false), (false, true)]);
+            let (luma, chroma) = if format == 0 { (true, false) } else { switches };
+            return Picture { width, height, ctb, format, depth, luma, chroma };
+        }
+    }
+}
+
+/// A picture of 64 CTUs.
+fn many_ctus() -> impl Iterator<Item = Script> {
+    let picture = Picture { width: 128, height: 128, ctb: 16, format: 0, depth: 8, luma: true, chroma: false };
+    Script::of(Random::new(64), picture).into_iter()
 }
 
 /// What a run begins with: the state, what is lent, and anything in the buffers.
@@ -104,7 +151,7 @@ struct Run {
 }
 
 impl Run {
-    fn of(mut script: Script) -> Run {
+    fn of(mut script: Script, most_calls: usize) -> Run {
         let blocks = deblocked(&mut script);
         let mut run = Run { script, blocks, machine: Machine::new(), commands: vec![], calls: 0 };
         let (lent, state) = run.script.before_opening();
@@ -112,7 +159,7 @@ impl Run {
         beginning(state, &lent, seed).into_iter().for_each(|command| run.make(command));
         run.before_opening();
         run.make(Command::Open);
-        while !run.done() && run.calls < MOST_CALLS {
+        while !run.done() && run.calls < most_calls {
             run.step();
         }
         run.after_the_end();
@@ -303,8 +350,15 @@ impl Run {
             self.script.damage(&mut lent, &mut state);
         }
         let kind = self.script.random.pick(&Kind::ALL);
+        let kind = if kind == Kind::Open && self.too_soon(&state, &lent) { Kind::Filter } else { kind };
         let command = self.scripted(kind, self.machine.state.next);
         self.make_damaged(state, lent, command);
+    }
+
+    /// An open that is accepted begins the picture anew: the more blocks it has, the rarer that has to be.
+    fn too_soon(&mut self, state: &State, lent: &World) -> bool {
+        let is_refused = reasons::open(state.picture, &lent.marks).iter().any(|(_, holds)| holds());
+        !is_refused && !self.script.random.once_in(self.script.picture.marks())
     }
 
     /// A call that would be due, and damage where it looks.
@@ -340,7 +394,7 @@ impl Run {
     }
 
     fn damage_entry(&mut self, lent: &mut World, ctu: usize) {
-        let place = ENTRY * ctu + self.script.random.below(ENTRY);
+        let place = ENTRY_BYTES * ctu + self.script.random.below(ENTRY_BYTES);
         if let Some(byte) = lent.table.get_mut(place) {
             *byte = self.script.random.pick(&[255, 255, 3, 32, 127]);
         }
@@ -392,7 +446,8 @@ impl Run {
         if of_lengths {
             self.make(Command::Lengths(lengths(&lent)));
         }
-        let damage = differing(&saved.whole, &lent);
+        let mut damage = differing(&saved.whole, &lent);
+        damage.truncate(MOST_POKES);
         for &(buffer, place, _, value) in &damage {
             self.make(Command::Poke { buffer, place, value });
         }

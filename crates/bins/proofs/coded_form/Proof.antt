@@ -2,7 +2,6 @@
 use borrow.Author.Needs.{needs}
 use mathlib.Core.Path.{ap}
 use denote.Ref.{now}
-use Rattle.standard.specs.Sets.{switchesOf}
 use Rattle.bins.specs.Views.{formTaken}
 use Rattle.bins.proofs.Resolving.{read-cut, read-more, read-whole}
 use Rattle.bins.proofs.Steps.{known}
@@ -22,7 +21,7 @@ returns : tie.Need-returns
 returns c =
     let start = c .before .before .before .before in
     let a = start .args in
-    read-cut (switchesOf (a .p)) (a .has-left) (a .has-up) (now (a .bytes)) (a .count) (start .pre .1 .1)
+    read-cut (a .s) (a .has-left) (a .has-up) (now (a .bytes)) (a .count) (start .pre .1)
     (known (c .before .before .form .ensures) (ap formTaken (c .enum-told .given .1)))
 
 returns-2 : tie.Need-returns-2
@@ -30,7 +29,7 @@ returns-2 c =
     let k = c .before .before in
     let start = k .before .before .before .before .before in
     let a = start .args in
-    read-more (switchesOf (a .p)) (a .has-left) (a .has-up) (now (a .bytes)) (a .count) (start .pre .1 .1) (start .pre .1 .0)
+    read-more (a .s) (a .has-left) (a .has-up) (now (a .bytes)) (a .count) (start .pre .1) (start .pre .0)
     (known (k .before .before .before .form .ensures) (ap formTaken (k .before .form2 .given .1))) (c .if1 .taken)
 
 returns-3 : tie.Need-returns-3
@@ -38,7 +37,7 @@ returns-3 c =
     let k = c .before .before in
     let start = k .before .before .before .before .before in
     let a = start .args in
-    read-whole (switchesOf (a .p)) (a .has-left) (a .has-up) (now (a .bytes)) (a .count) (start .pre .1 .1) (start .pre .1 .0)
+    read-whole (a .s) (a .has-left) (a .has-up) (now (a .bytes)) (a .count) (start .pre .1) (start .pre .0)
     (known (k .before .before .before .form .ensures) (ap formTaken (k .before .form2 .given .1))) (c .if1 .left)
 
 pub coded-form-spec : {M : Type 1} → statement M

@@ -3,7 +3,6 @@ use borrow.Author.Needs.{needs}
 use mathlib.Core.Path.{_≡_, sym, ap, _∙_}
 use mathlib.Core.Option.{some}
 use denote.Ref.{now}
-use Rattle.standard.specs.Sets.{switchesOf}
 use Rattle.standard.specs.Bins.{binsOf}
 use Rattle.standard.proofs.Reader.{setOf, readCtu}
 use Rattle.bins.specs.declared.Form.{Form}
@@ -28,7 +27,7 @@ enum-told c = search needs
 known-form : (c : tie.After-read-form) {f : Form} → c .read-form .result ≡ f
     → let a = c .before .before .before .before .args in
     resolved f (setOf (a .left)) (setOf (a .up))
-    ≡ some (answerOf (readCtu (switchesOf (a .p)) (setOf (a .left)) (setOf (a .up)) (binsOf (now (a .bytes)) (a .count))))
+    ≡ some (answerOf (readCtu (a .s) (setOf (a .left)) (setOf (a .up)) (binsOf (now (a .bytes)) (a .count))))
 known-form c e =
     let a = c .before .before .before .before .args in
     sym (ap (λ (f : Form). resolved f (setOf (a .left)) (setOf (a .up))) e)

@@ -3,7 +3,6 @@ use borrow.Author.Needs.{needs}
 use mathlib.Core.Path.{sym, _∙_}
 use native.Mathlib.Omega.{arith}
 use denote.Ref.{now}
-use Rattle.standard.specs.Sets.{switchesOf}
 use Rattle.bins.proofs.Resolving.{off-more, off-whole}
 use Rattle.bins.proofs.read_form.Statement.{statement}
 use Rattle.bins.proofs.read_form.Tie as tie
@@ -12,7 +11,7 @@ any-on-requires : tie.Need-any-on-requires
 any-on-requires c κs = search needs
 
 coded-form-requires : tie.Need-coded-form-requires
-coded-form-requires c κs = let start = c .before .before .before in (start .pre .0, (start .pre .1, sym (c .before .any-on .ensures) ∙ c .if1 .taken))
+coded-form-requires c κs = let start = c .before .before .before in (start .pre, sym (c .before .any-on .ensures) ∙ c .if1 .taken)
 
 returns : tie.Need-returns
 returns c = search needs
@@ -21,13 +20,13 @@ returns-2 : tie.Need-returns-2
 returns-2 c =
     let start = c .before .before .before .before in
     let a = start .args in
-    off-more (switchesOf (a .p)) (a .has-left) (a .has-up) (now (a .bytes)) (a .count) (sym (c .before .before .any-on .ensures) ∙ c .before .if1 .left) (start .pre .1) (omega (arith, c .if2 .taken))
+    off-more (a .s) (a .has-left) (a .has-up) (now (a .bytes)) (a .count) (sym (c .before .before .any-on .ensures) ∙ c .before .if1 .left) (start .pre) (omega (arith, c .if2 .taken))
 
 returns-3 : tie.Need-returns-3
 returns-3 c =
     let start = c .before .before .before .before in
     let a = start .args in
-    off-whole (switchesOf (a .p)) (a .has-left) (a .has-up) (now (a .bytes)) (a .count) (sym (c .before .before .any-on .ensures) ∙ c .before .if1 .left) (omega (arith, c .if2 .left))
+    off-whole (a .s) (a .has-left) (a .has-up) (now (a .bytes)) (a .count) (sym (c .before .before .any-on .ensures) ∙ c .before .if1 .left) (omega (arith, c .if2 .left))
 
 pub read-form-spec : {M : Type 1} → statement M
 read-form-spec =

@@ -36,8 +36,11 @@ top-of-requires c κs = sound c .most
 fill-requires : tie.Need-fill-requires
 fill-requires c κs = search needs
 
+element-copy-out-filter : tie.Need-element-copy-out-filter
+element-copy-out-filter c = search needs
+
 filter-requires : tie.Need-filter-requires
-filter-requires c κs = sound (c .before .before .before .before .before .before .before)
+filter-requires c κs = sound (c .before .before .before .before .before .before .before .before)
 
 element-copy-out-print : tie.Need-element-copy-out-print
 element-copy-out-print c = search needs
@@ -82,6 +85,7 @@ filter-and-print-spec =
     returns
     top-of-requires
     fill-requires
+    element-copy-out-filter
     filter-requires
     element-copy-out-print
     print-requires

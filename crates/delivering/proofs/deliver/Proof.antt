@@ -12,8 +12,8 @@ use Rattle.standard.specs.Reasons.{Planes, planeOf, deliverReasons}
 use Rattle.standard.specs.Calls.{marked}
 use Rattle.standard.specs.Contracts.{Judged}
 use Rattle.geometry.proofs.Marks.{mark-lt}
+use Rattle.standard.proofs.Granted.{MayDeliver, may-deliver}
 use Rattle.standard.proofs.Three.{plane-long, only-two, block-written}
-use Rattle.delivering.proofs.Delivering.{Accepted, accepted}
 use borrow.Author.Needs.{needs}
 use Rattle.delivering.proofs.deliver.Statement.{statement}
 use Rattle.delivering.proofs.deliver.Tie as tie
@@ -34,16 +34,16 @@ s c = c .before .before .before .before .before .before .before .before .before 
 clear : (c : tie.After-p) → Clear (R (s c))
 clear c = subst (Judged (R (s c))) (c .before .enum-told .given .1) (c .before .before .before .deliver-answer .ensures)
 
-ok : (c : tie.After-p) → let a = s c .args in Accepted (a .state) (a .component) (a .ctb) (now (a .samples)) (L (s c)) (now (a .marks))
-ok c = accepted (clear c)
+ok : (c : tie.After-p) → let a = s c .args in MayDeliver (a .state) (a .component) (a .ctb) (now (a .samples)) (L (s c)) (now (a .marks))
+ok c = let a = s c .args in may-deliver (a .state) (a .component) (a .ctb) (now (a .samples)) (L (s c)) (now (a .marks)) (clear c)
 
 fits : (c : tie.After-p) (j : ℕ) → s c .args .component ≡ j → let a = s c .args in
     length (planeOf (L (s c)) j) ≡ planeWidth (a .state .picture) (a .component) * planeHeight (a .state .picture) (a .component)
 fits c j e =
-    ap (λ (n : ℕ). length (planeOf (L (s c)) n)) (sym e) ∙ plane-long (s c .args .component) (ok c .planes-fit) (ok c .component)
+    ap (λ (n : ℕ). length (planeOf (L (s c)) n)) (sym e) ∙ plane-long (s c .args .component) (ok c .deblocked-fits) (ok c .block .component)
 
 is-two : (c : tie.At-match2-rest) → s (c .before .before) .args .component ≡ 2
-is-two c = only-two (s (c .before .before) .args .state .picture) (ok (c .before .before) .component) (c .match2 .rest .0 .1) (c .match2 .rest .1)
+is-two c = only-two (s (c .before .before) .args .state .picture) (ok (c .before .before) .block .component) (c .match2 .rest .0 .1) (c .match2 .rest .1)
 
 marked-is : (c : tie.After-mark-place) → let a = s (c .before) .args in
     set (now (a .marks)) (c .mark-place .result) 1 ≡ marked (a .state) (a .component) (a .ctb) 1 (now (a .marks))
@@ -66,22 +66,22 @@ mark-place-requires c κs = ok c .rules
 slice-write-marks : tie.Need-slice-write-marks
 slice-write-marks c =
     let q = c .before in
-    rw (c .mark-place .ensures, ok q .marks-fit) (mark-lt (s q .args .state .picture) (ok q .component) (ok q .ctb))
+    rw (c .mark-place .ensures, ok q .marks-fit) (mark-lt (s q .args .state .picture) (ok q .block .component) (ok q .block .ctb))
 
 put-ctb-requires : tie.Need-put-ctb-requires
 put-ctb-requires c κs =
     let q = c .before .before .before in
-    ((ok q .rules, ok q .ctb), (ok q .samples-fit, fits q 0 (c .before .match2 .keys1)))
+    ((ok q .rules, ok q .block .ctb), (ok q .deliverable .long, fits q 0 (c .before .match2 .keys1)))
 
 put-ctb-requires-2 : tie.Need-put-ctb-requires-2
 put-ctb-requires-2 c κs =
     let q = c .before .before .before in
-    ((ok q .rules, ok q .ctb), (ok q .samples-fit, fits q 1 (c .before .match2 .keys2)))
+    ((ok q .rules, ok q .block .ctb), (ok q .deliverable .long, fits q 1 (c .before .match2 .keys2)))
 
 put-ctb-requires-3 : tie.Need-put-ctb-requires-3
 put-ctb-requires-3 c κs =
     let q = c .before .before .before in
-    ((ok q .rules, ok q .ctb), (ok q .samples-fit, fits q 2 (is-two (c .before))))
+    ((ok q .rules, ok q .block .ctb), (ok q .deliverable .long, fits q 2 (is-two (c .before))))
 
 same-length : tie.Need-same-length
 same-length c = search needs

@@ -5,6 +5,7 @@ use native.Mathlib.Omega.{arith}
 use denote.Ref.{now}
 use lib.Pow.{pow-pos}
 use Rattle.standard.specs.Picture.{depthOf}
+use Rattle.standard.proofs.Depths.{depth-in-range}
 use Rattle.standard.proofs.Answers.{tell-same}
 use borrow.Author.Needs.{needs}
 use Rattle.delivering.proofs.sample_too_large.Statement.{statement}
@@ -14,8 +15,7 @@ depth-of-requires : tie.Need-depth-of-requires
 depth-of-requires c κs = search needs
 
 top-of-requires : tie.Need-top-of-requires
-unfolding depthOf
-top-of-requires c κs = omega (arith, c .depth-of .ensures, c .before .before .pre .depth-most)
+top-of-requires c κs = let s = c .before .before in omega (arith, c .depth-of .ensures, depth-in-range (s .pre) (s .args .component))
 
 sample-above-requires : tie.Need-sample-above-requires
 sample-above-requires c κs = search needs

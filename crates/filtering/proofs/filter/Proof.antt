@@ -7,17 +7,19 @@ use native.Mathlib.Omega.{arith}
 use denote.Ref.{now}
 use lib.ListN.{length, set}
 use Rattle.standard.specs.Picture.{Rules, planeWidth, planeHeight, ctuCount}
+use Rattle.standard.specs.Table.{offsetsAt}
 use Rattle.standard.specs.Refusals.{Reason}
-use Rattle.standard.specs.Reasons.{Planes, planeOf, filterReasons}
+use Rattle.standard.specs.Reasons.{Planes, planeOf, TableFits, filterReasons}
 use Rattle.standard.specs.Calls.{marked}
 use Rattle.geometry.proofs.Marks.{mark-lt}
 use Rattle.samples.specs.Blocks.{Legal}
 use Rattle.filtering.specs.declared.Ready.{Ready}
 use Rattle.filtering.specs.declared.Ready.the-variants.{Go}
 use Rattle.filtering.specs.Filtering.{Readied, Deep}
-use Rattle.standard.proofs.Parts.{clear-front}
+use Rattle.standard.proofs.Granted.{MayFilter, may-filter}
+use Rattle.standard.proofs.Seeing.{scans-itself}
 use Rattle.standard.proofs.Three.{plane-long, only-two}
-use Rattle.filtering.proofs.Filtering.{Called, called, not-above, block-filtered}
+use Rattle.filtering.proofs.Filtering.{block-filtered}
 use borrow.Author.Needs.{needs}
 use Rattle.filtering.proofs.filter.Statement.{statement}
 use Rattle.filtering.proofs.filter.Tie as tie
@@ -47,13 +49,13 @@ s c = start (c .before .before .before .before)
 goes : (c : tie.After-p) → Answers (s c) (Go (c .before .before .set .given .0 .0))
 goes c = subst (Answers (s c)) (c .before .before .set .given .1) (c .before .before .before .before .filter-answer .ensures)
 
-ok : (c : tie.After-p) → let a = s c .args in Called (a .state) (a .component) (a .ctb) (L (s c)) (O (s c)) (now (a .marks)) (now (a .table))
-ok c = called (clear-front 4 (R (s c)) (goes c .0))
+ok : (c : tie.After-p) → let a = s c .args in MayFilter (a .state) (a .component) (a .ctb) (L (s c)) (O (s c)) (now (a .marks)) (now (a .table))
+ok c = let a = s c .args in may-filter (a .state) (a .component) (a .ctb) (L (s c)) (O (s c)) (now (a .marks)) (now (a .table)) (goes c .0)
 
 deep : (c : tie.After-p) → let a = s c .args in Deep (a .state .picture) (a .component) (a .ctb) (planeOf (L (s c)) (a .component))
 deep c =
     let a = s c .args in
-    not-above (a .state) (a .component) (planeOf (L (s c)) (a .component)) (ok c .named .rules) (ok c .named .ctb) (goes c .0 .1 .1 .1 .1 .1 .1 .1 .1 .0)
+    λ x y h. ok c .filterable .low x y (scans-itself (ok c .rules) (a .component) (offsetsAt (now (a .table)) (a .component) (a .ctb)) (ok c .block .ctb) h)
 
 -- what the filter of the block needs, where the component is j
 abbrev Requires : tie.After-p → ℕ → Type 0
@@ -61,7 +63,7 @@ Requires c j =
     let a = s c .args in
     let p = a .state .picture in
     let n = planeWidth p (a .component) * planeHeight p (a .component) in
-    (Rules p × (a .ctb < ctuCount p) × Legal (c .before .before .set .given .0 .0))
+    (Rules p × (a .ctb < ctuCount p) × Legal (c .before .before .set .given .0 .0) × TableFits p (now (a .table)))
     × ((length (planeOf (L (s c)) j) ≡ n) × ((length (planeOf (O (s c)) j) ≡ n) × Deep p (a .component) (a .ctb) (planeOf (L (s c)) j)))
 
 requires : (c : tie.After-p) (j : ℕ) → s c .args .component ≡ j → Requires c j
@@ -69,10 +71,10 @@ requires c j e =
     let k = ok c in
     let i = s c .args .component in
     subst (Requires c) e
-    ((k .named .rules, k .named .ctb, goes c .1 .legal), (plane-long i (k .deblocked-fit) (k .named .component), (plane-long i (k .filtered-fit) (k .named .component), deep c)))
+    ((k .rules, k .block .ctb, goes c .1 .legal, k .table-fits), (plane-long i (k .deblocked-fits) (k .block .component), (plane-long i (k .filtered-fits) (k .block .component), deep c)))
 
 is-two : (c : tie.At-match2-rest) → s (c .before .before) .args .component ≡ 2
-is-two c = only-two (s (c .before .before) .args .state .picture) (ok (c .before .before) .named .component) (c .match2 .rest .0 .1) (c .match2 .rest .1)
+is-two c = only-two (s (c .before .before) .args .state .picture) (ok (c .before .before) .block .component) (c .match2 .rest .0 .1) (c .match2 .rest .1)
 
 marked-is : (c : tie.After-mark-place) → let a = s (c .before) .args in
     set (now (a .marks)) (c .mark-place .result) 2 ≡ marked (a .state) (a .component) (a .ctb) 2 (now (a .marks))
@@ -90,12 +92,12 @@ enum-known-set : tie.Need-enum-known-set
 enum-known-set c = search needs
 
 mark-place-requires : tie.Need-mark-place-requires
-mark-place-requires c κs = ok c .named .rules
+mark-place-requires c κs = ok c .rules
 
 slice-write-marks : tie.Need-slice-write-marks
 slice-write-marks c =
     let q = c .before in
-    rw (c .mark-place .ensures, ok q .marks-fit) (mark-lt (s q .args .state .picture) (ok q .named .component) (ok q .named .ctb))
+    rw (c .mark-place .ensures, ok q .marks-fit) (mark-lt (s q .args .state .picture) (ok q .block .component) (ok q .block .ctb))
 
 filter-ctb-requires : tie.Need-filter-ctb-requires
 filter-ctb-requires c κs = requires (c .before .before .before) 0 (c .before .match2 .keys1)

@@ -1,4 +1,4 @@
--- Above 2 ^ depth - 1 is not below 2 ^ depth, which is not 0; and the rectangle that is scanned lies in the plane.
+-- Above 2 ^ depth - 1 is not below 2 ^ depth, which is not 0; and the rectangle that is scanned lies in the plane, and has the places that are looked at.
 use mathlib.Core.Path.{_≡_, sym, ap, _∙_, subst}
 use Prim.Native.Nat.{ℕ, _-_, _^_, _<_}
 use native.Mathlib.Omega.{arith}
@@ -9,6 +9,7 @@ use Rattle.standard.specs.Picture.{depthOf, planeWidth, planeHeight, rectangle,
 use Rattle.standard.specs.Refusals.{Tells}
 use Rattle.standard.proofs.Answers.{tell-same}
 use Rattle.standard.proofs.Depths.{depth-in-range}
+use Rattle.standard.proofs.Seeing.{scans-grown, grown-scans}
 use Rattle.planes.specs.Places.{Placed}
 use Rattle.planes.specs.Scans.{BlockAbove}
 use Rattle.filtering.proofs.Planes.{grown-placed}
@@ -64,7 +65,9 @@ returns c =
     let wide = w .plane-width .ensures .is in
     let e = top-is (c .before) in
     let l : 0 < 2 ^ depthOf (a .state .picture) (a .component) = pow-pos _ in
-    tell-same (c .some-above .result) (λ t. (t .0, t .1, t .2, omega (arith, t .3))) (λ t. (t .0, t .1, t .2, omega (arith, t .3)))
+    tell-same (c .some-above .result)
+    (λ t. (t .0, t .1, grown-scans (a .state .picture) (a .component) (a .set) (a .ctb) (t .0) (t .1) (t .2), omega (arith, t .3)))
+    (λ t. (t .0, t .1, scans-grown (a .state .picture) (a .component) (a .set) (a .ctb) (t .0) (t .1) (t .2), omega (arith, t .3)))
     (subst (λ (r : Rectangle). Tells (BlockAbove (now (a .plane)) (planeWidth (a .state .picture) (a .component)) r (c .before .top-of .result)) (c .some-above .result)) (grown-is g)
     (rw wide at (c .some-above .ensures)))
 

@@ -6,8 +6,9 @@ use denote.Ref.{now}
 use lib.ListN.{length}
 use Rattle.standard.specs.Picture.{Rules, planeWidth, planeHeight, ctuCount}
 use Rattle.standard.specs.Refusals.{Tells}
-use Rattle.standard.specs.Reasons.{Planes, planeOf, DeblockedSampleTooLarge}
+use Rattle.standard.specs.Reasons.{Planes, planeOf}
 use Rattle.standard.proofs.Three.{plane-long, only-two}
+use Rattle.filtering.specs.Filtering.{ScannedTooLarge}
 use Rattle.filtering.proofs.some_too_large.Statement.{statement}
 use Rattle.filtering.proofs.some_too_large.Tie as tie
 
@@ -25,7 +26,7 @@ requires s j e =
     ((s .pre .0 .rules, s .pre .0 .ctb), ap (λ (n : ℕ). length (planeOf (L s) n)) (sym e) ∙ plane-long (s .args .component) (s .pre .1) (s .pre .0 .component))
 
 abbrev Says : tie.Start → Bool → ℕ → Type 0
-Says s b j = let a = s .args in Tells (DeblockedSampleTooLarge (a .state) (a .component) (a .ctb) (planeOf (L s) j)) b
+Says s b j = let a = s .args in Tells (ScannedTooLarge (a .state) (a .component) (a .set) (a .ctb) (planeOf (L s) j)) b
 
 says : (s : tie.Start) (b : Bool) (j : ℕ) → s .args .component ≡ j → Says s b j → Says s b (s .args .component)
 says s b j e = subst (Says s b) (sym e)

@@ -16,8 +16,8 @@ columns-of-requires c κs = search needs
 rows-of-requires : tie.Need-rows-of-requires
 rows-of-requires c κs = search needs
 
-waited-for-requires : tie.Need-waited-for-requires
-waited-for-requires c κs = search needs
+around-of-requires : tie.Need-around-of-requires
+around-of-requires c κs = search needs
 
 mark-outside-requires : tie.Need-mark-outside-requires
 mark-outside-requires c κs =
@@ -25,8 +25,8 @@ mark-outside-requires c κs =
     let w = h .before in
     let m = w .before in
     let s = m .before .before in
-    rw (m .mark-place .ensures, w .columns-of .ensures .is, h .rows-of .ensures .is, c .waited-for .ensures, s .pre .1)
-    (around-placed (s .pre .0 .rules) (s .pre .0 .ctb), marks-le (s .args .p) (s .pre .0 .component))
+    rw (m .mark-place .ensures, w .columns-of .ensures .is, h .rows-of .ensures .is, c .around-of .ensures, s .pre .1)
+    (around-placed (s .pre .0 .rules) (s .args .set) (s .pre .0 .ctb), marks-le (s .args .p) (s .pre .0 .component))
 
 returns : tie.Need-returns
 returns c =
@@ -35,9 +35,9 @@ returns c =
     let m = w .before in
     let s = m .before .before in
     let a = s .args in
-    tell-same (c .mark-outside .result) (marks-waited (s .pre .0 .rules) (s .pre .0 .ctb) (a .component) (now (a .marks)) (a .low) (a .high))
-    (waited-marks (s .pre .0 .rules) (s .pre .0 .ctb) (a .component) (now (a .marks)) (a .low) (a .high))
-    (rw (m .mark-place .ensures, w .columns-of .ensures .is, r .waited-for .ensures) at (c .mark-outside .ensures))
+    tell-same (c .mark-outside .result) (marks-waited (s .pre .0 .rules) (a .set) (s .pre .0 .ctb) (a .component) (now (a .marks)) (a .low) (a .high))
+    (waited-marks (s .pre .0 .rules) (a .set) (s .pre .0 .ctb) (a .component) (now (a .marks)) (a .low) (a .high))
+    (rw (m .mark-place .ensures, w .columns-of .ensures .is, r .around-of .ensures) at (c .mark-outside .ensures))
 
 pub waited-outside-spec : {M : Type 1} → statement M
 waited-outside-spec =
@@ -46,6 +46,6 @@ waited-outside-spec =
     mark-place-requires
     columns-of-requires
     rows-of-requires
-    waited-for-requires
+    around-of-requires
     mark-outside-requires
     returns)

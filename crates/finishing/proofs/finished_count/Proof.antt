@@ -9,7 +9,8 @@ use Rattle.standard.specs.Picture.{ctuCount}
 use Rattle.standard.specs.Refusals.{Clear}
 use Rattle.standard.specs.Reasons.{Planes, rowsReasons}
 use Rattle.standard.specs.Contracts.{Judged}
-use Rattle.finishing.proofs.Finishing.{Accepted, accepted, marks-fit, finished, rows-few}
+use Rattle.standard.proofs.Granted.{MayCount, may-count}
+use Rattle.finishing.proofs.Finishing.{marks-fit, finished, rows-few}
 use Rattle.finishing.proofs.finished_count.Statement.{statement}
 use Rattle.finishing.proofs.finished_count.Tie as tie
 
@@ -24,8 +25,8 @@ is-clear c =
     let a = s c .args in
     subst (Judged (rowsReasons (a .state) (a .component) (F (s c)) (now (a .marks)))) (c .before .enum-told .given .1) (c .before .before .before .rows-answer .ensures)
 
-ok : (c : tie.After-p) → let a = s c .args in Accepted (a .state) (a .component) (F (s c)) (now (a .marks))
-ok c = let a = s c .args in accepted (a .state) (a .component) (F (s c)) (now (a .marks)) (is-clear c)
+ok : (c : tie.After-p) → let a = s c .args in MayCount (a .state) (a .component) (F (s c)) (now (a .marks))
+ok c = let a = s c .args in may-count (a .state) (a .component) (F (s c)) (now (a .marks)) (is-clear c)
 
 -- the CTBs of the component
 all-of : (c : tie.After-rows-of) → c .rows-of .result * c .before .columns-of .result ≡ ctuCount (s (c .before .before .before) .args .state .picture)
@@ -53,7 +54,7 @@ ctb-rows-filtered-requires : tie.Need-ctb-rows-filtered-requires
 ctb-rows-filtered-requires c κs =
     let m = c .before .before in
     let a = s (m .before) .args in
-    marks-fit (a .state .picture) (a .component) (now (a .marks)) (m .mark-place .ensures) (all-of c) (ok (m .before) .marked) (ok (m .before) .there)
+    marks-fit (a .state .picture) (a .component) (now (a .marks)) (m .mark-place .ensures) (all-of c) (ok (m .before) .marks-fit) (ok (m .before) .countable .component)
 
 ctb-height-requires : tie.Need-ctb-height-requires
 ctb-height-requires c κs = ok (c .before .before .before .before) .rules

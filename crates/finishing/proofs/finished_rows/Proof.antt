@@ -12,7 +12,8 @@ use Rattle.standard.specs.Reasons.{Planes, planeOf, rowsReasons}
 use Rattle.standard.specs.Calls.{FinishedRows}
 use Rattle.standard.specs.Contracts.{RowsDecides, PartEnsures}
 use Rattle.standard.proofs.Three.{plane-long, only-two}
-use Rattle.finishing.proofs.Finishing.{Accepted, accepted, few, part, empty}
+use Rattle.standard.proofs.Granted.{MayCount, may-count}
+use Rattle.finishing.proofs.Finishing.{few, part, empty}
 use Rattle.finishing.proofs.finished_rows.Statement.{statement}
 use Rattle.finishing.proofs.finished_rows.Tie as tie
 
@@ -32,8 +33,8 @@ N c = c .before .before .a .given .0 .0
 said : (c : tie.After-p) → Said (s c) (rows.Rows (N c))
 said c = subst (Said (s c)) (c .before .before .a .given .1) (c .before .before .before .before .finished-count .ensures .0)
 
-ok : (c : tie.After-p) → let a = s c .args in Accepted (a .state) (a .component) (F (s c)) (now (a .marks))
-ok c = let a = s c .args in accepted (a .state) (a .component) (F (s c)) (now (a .marks)) (said c .0)
+ok : (c : tie.After-p) → let a = s c .args in MayCount (a .state) (a .component) (F (s c)) (now (a .marks))
+ok c = let a = s c .args in may-count (a .state) (a .component) (F (s c)) (now (a .marks)) (said c .0)
 
 within : (c : tie.After-plane-height) → N (c .before .before) ≤ c .plane-height .result
 within c = omega (arith, few (said (c .before .before) .1), c .plane-height .ensures .is)
@@ -45,7 +46,7 @@ Plane c = let t = s (c .before .before) in planeOf (F t) (t .args .component)
 plane-is : (c : tie.After-plane-height) {l : List ℕ} → Plane c ≡ l → length l ≡ c .before .plane-width .result * c .plane-height .result
 plane-is c e =
     let p = c .before .before in
-    sym (ap length e) ∙ plane-long (s p .args .component) (ok p .planes) (ok p .there)
+    sym (ap length e) ∙ plane-long (s p .args .component) (ok p .filtered-fits) (ok p .countable .component)
     ∙ sym (ap₂ (λ (a b : ℕ). a * b) (c .before .plane-width .ensures .is) (c .plane-height .ensures .is))
 
 first : (c : tie.At-match2-keys1) → Plane (c .before) ≡ now (s (c .before .before .before) .args .y)
@@ -57,7 +58,7 @@ second c = ap (planeOf (F (s (c .before .before .before)))) (c .match2 .keys2)
 third : (c : tie.At-match2-rest) → Plane (c .before) ≡ now (s (c .before .before .before) .args .cr)
 third c =
     let p = c .before .before .before in
-    ap (planeOf (F (s p))) (only-two (s p .args .state .picture) (ok p .there) (c .match2 .rest .0 .1) (c .match2 .rest .1))
+    ap (planeOf (F (s p))) (only-two (s p .args .state .picture) (ok p .countable .component) (c .match2 .rest .0 .1) (c .match2 .rest .1))
 
 -- that many rows of it
 handed : (c : tie.After-plane-height) {plane l : List ℕ} → Plane c ≡ plane → l ≡ take (N (c .before .before) * c .before .plane-width .result) plane

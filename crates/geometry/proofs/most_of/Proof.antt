@@ -2,14 +2,13 @@
 use borrow.Author.Needs.{needs}
 use mathlib.Core.Path.{ap, _∙_}
 use native.Mathlib.Omega.{arith}
-use Rattle.standard.specs.Picture.{depthOf}
-use Rattle.standard.specs.Sets.{largest}
+use Rattle.standard.specs.Sets.{largest, depthIn}
 use Rattle.standard.proofs.Depths.{largest-at-most-31}
 use Rattle.geometry.proofs.most_of.Statement.{statement}
 use Rattle.geometry.proofs.most_of.Tie as tie
 
-depth-of-requires : tie.Need-depth-of-requires
-depth-of-requires c κs = search needs
+depth-in-requires : tie.Need-depth-in-requires
+depth-in-requires c κs = search needs
 
 largest-magnitude-requires : tie.Need-largest-magnitude-requires
 largest-magnitude-requires c κs = search needs
@@ -17,8 +16,8 @@ largest-magnitude-requires c κs = search needs
 returns : tie.Need-returns
 returns c =
     let a = c .before .before .args in
-    let m = c .largest-magnitude .ensures ∙ ap largest (c .before .depth-of .ensures) in
-    (m, omega (arith, m, largest-at-most-31 (depthOf (a .p) (a .component))))
+    let m = c .largest-magnitude .ensures ∙ ap largest (c .before .depth-in .ensures) in
+    (m, omega (arith, m, largest-at-most-31 (depthIn (a .s) (a .component))))
 
 pub most-of-spec : {M : Type 1} → statement M
-most-of-spec = tie.close (tie.spec depth-of-requires largest-magnitude-requires returns)
+most-of-spec = tie.close (tie.spec depth-in-requires largest-magnitude-requires returns)

@@ -1,14 +1,14 @@
 -- The verdict of `open_answer`: a refusal leaves all as it was; where none holds, the marks, as many as they must be, are 0.
-use mathlib.Core.Logic.{Dec·not-not}
 use mathlib.Core.Path.{_≡_, refl, ap, _∙_, subst}
 use Prim.Native.Nat.{ℕ}
-use native.Mathlib.Decide.{ℕ-discrete}
 use borrow.Author.Needs.{needs}
 use denote.Ref.{now}
 use lib.ListN.{replicate}
 use Rattle.standard.specs.Refusals.{Clear}
 use Rattle.standard.specs.Reasons.{openReasons}
 use Rattle.standard.specs.Contracts.{Judged}
+use Rattle.standard.proofs.Called.{lent}
+use Rattle.standard.proofs.Refusing.{marks-fit?}
 use Rattle.opening.proofs.open.Statement.{statement}
 use Rattle.opening.proofs.open.Tie as tie
 
@@ -45,7 +45,7 @@ returns-2 c =
     let d = b .before .before .before .before in
     let a = d .before .before .before .args in
     let clear : Clear (openReasons (a .state) (now (a .marks))) = subst (Judged (openReasons (a .state) (now (a .marks)))) (b .before .before .enum-told .given .1) (d .open-answer .ensures) in
-    (clear, (c .opened .ensures, b .clear .ensures ∙ ap (λ (n : ℕ). replicate n 0) (Dec·not-not (ℕ-discrete _ _) .0 (clear .1 .0))))
+    (clear, (c .opened .ensures, b .clear .ensures ∙ ap (λ (n : ℕ). replicate n 0) (lent (a .state) (marks-fit? (a .state .picture) (now (a .marks))) clear .fits)))
 
 pub open-spec : {M : Type 1} → statement M
 open-spec =

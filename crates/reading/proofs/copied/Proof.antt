@@ -3,7 +3,6 @@ use mathlib.Core.Option.{some}
 use mathlib.Core.Path.{_≡_, ap, subst}
 use borrow.Author.Needs.{needs}
 use denote.Ref.{now}
-use Rattle.standard.specs.Sets.{switchesOf}
 use Rattle.geometry.specs.declared.Near.{Near}
 use Rattle.geometry.specs.Geometry.{nearOf}
 use Rattle.sets.specs.declared.Found.{Found}
@@ -34,7 +33,7 @@ enum-known-q : tie.Need-enum-known-q
 enum-known-q c = search needs
 
 returns : tie.Need-returns
-returns c = let a = c .before .before .before .args in none-copied (switchesOf (a .p)) (now (a .table)) (ap nearOf (c .enum-told .given .1))
+returns c = let a = c .before .before .before .args in none-copied (a .s) (now (a .table)) (ap nearOf (c .enum-told .given .1))
 
 -- the entry that was looked at
 abbrev s : tie.After-get-set → tie.Start
@@ -44,20 +43,20 @@ near : (c : tie.After-get-set) → nearOf (s c .args .n) ≡ some (c .before .be
 near c = ap nearOf (c .before .before .n .given .1)
 
 found : (c : tie.After-get-set) {r : Found} → c .get-set .result ≡ r
-    → Finds (switchesOf (s c .args .p)) (now (s c .args .table)) (c .before .before .n .given .0 .0) r
-found c e = subst (Finds (switchesOf (s c .args .p)) (now (s c .args .table)) (c .before .before .n .given .0 .0)) e (c .get-set .ensures)
+    → Finds (s c .args .s) (now (s c .args .table)) (c .before .before .n .given .0 .0) r
+found c e = subst (Finds (s c .args .s) (now (s c .args .table)) (c .before .before .n .given .0 .0)) e (c .get-set .ensures)
 
 returns-2 : tie.Need-returns-2
 returns-2 c =
     let g = c .before .before in
     let a = s g .args in
-    not-copied (switchesOf (a .p)) (now (a .table)) (near g) (found g (c .enum-told2 .given .1))
+    not-copied (a .s) (now (a .table)) (near g) (found g (c .enum-told2 .given .1))
 
 returns-3 : tie.Need-returns-3
 returns-3 c =
     let g = c .before .before .before in
     let a = s g .args in
-    set-copied (switchesOf (a .p)) (now (a .table)) (near g) (found g (c .before .q .given .1))
+    set-copied (a .s) (now (a .table)) (near g) (found g (c .before .q .given .1))
 
 pub copied-spec : {M : Type 1} → statement M
 copied-spec =

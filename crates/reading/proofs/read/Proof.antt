@@ -1,5 +1,5 @@
 -- The verdict of `read_answer`: a refusal leaves all as it was; where none holds, the set goes into the entry of the CTU that is due.
-use mathlib.Core.List.{List}
+use mathlib.Core.List.{List, _++_}
 use mathlib.Core.Path.{refl, sym, ap, _∙_, subst}
 use Prim.Native.Nat.{ℕ, _+_, _*_, _≤_}
 use borrow.Author.Needs.{needs}
@@ -8,9 +8,9 @@ use lib.ListN.{length}
 use Rattle.standard.specs.declared.CtuSet.{CtuSet}
 use Rattle.standard.specs.declared.ReadAnswer.{ReadAnswer}
 use Rattle.standard.specs.declared.ReadAnswer.the-variants.{Set}
-use Rattle.standard.specs.Table.{entered}
+use Rattle.standard.specs.Table.{entrySize, entered}
 use Rattle.standard.specs.Refusals.{Reason}
-use Rattle.standard.specs.Reasons.{readReasons}
+use Rattle.standard.specs.Reasons.{TableFits, callReasons, dueReasons, countReasons, binsReasons, readReasons}
 use Rattle.standard.proofs.Parts.{clear-front}
 use Rattle.lent.specs.Due.{Due}
 use Rattle.lent.proofs.Ready.{ready, due-fits, next-lt}
@@ -22,6 +22,16 @@ use Rattle.reading.proofs.read.Tie as tie
 
 abbrev R : tie.Start → List Reason
 R s = let a = s .args in readReasons (a .state) (now (a .bytes)) (a .count) (now (a .table))
+
+-- the parts of the reasons
+abbrev D : tie.Start → List Reason
+D s = let a = s .args in callReasons (a .state) (TableFits (a .state .picture) (now (a .table))) ++ dueReasons (a .state)
+
+abbrev C : tie.Start → List Reason
+C s = let a = s .args in countReasons (now (a .bytes)) (a .count)
+
+abbrev B : tie.Start → List Reason
+B s = let a = s .args in binsReasons (a .state) (now (a .bytes)) (a .count) (now (a .table))
 
 abbrev Verdict : tie.Start → ReadAnswer → Type 0
 Verdict s r = let a = s .args in Answered (a .state) (now (a .bytes)) (a .count) (now (a .table)) (R s) r
@@ -36,7 +46,9 @@ accepted : (c : tie.After-known-told2) → Verdict (s c) (Set (q c))
 accepted c = subst (Verdict (s c)) (c .before .q .given .1) (c .before .before .before .read-answer .ensures)
 
 ok : (c : tie.After-known-told2) → let a = s c .args in Due (a .state) (now (a .table))
-ok c = ready (clear-front 4 (R (s c)) (accepted c .0))
+ok c =
+    let t = s c in
+    ready (t .args .state) (now (t .args .table)) (clear-front (D t) (C t) (clear-front (D t ++ C t) (B t) (accepted c .0)))
 
 -- ---- the code
 
@@ -52,8 +64,8 @@ enum-known-q c = search needs
 advanced-requires : tie.Need-advanced-requires
 advanced-requires c κs = next-lt (ok c)
 
-address-of-requires : tie.Need-address-of-requires
-address-of-requires c κs = search needs
+due-of-requires : tie.Need-due-of-requires
+due-of-requires c κs = search needs
 
 cast-put-set : tie.Need-cast-put-set
 cast-put-set c = search needs
@@ -61,7 +73,7 @@ cast-put-set c = search needs
 put-set-requires : tie.Need-put-set-requires
 put-set-requires c κs =
     let k = c .before .before .before in
-    subst (λ (n : ℕ). 18 * n + 18 ≤ length (now (s k .args .table))) (sym (c .before .address-of .ensures)) (due-fits (ok k))
+    subst (λ (n : ℕ). entrySize * n + entrySize ≤ length (now (s k .args .table))) (sym (c .before .due-of .ensures)) (due-fits (ok k))
 
 same-length : tie.Need-same-length
 same-length c = search needs
@@ -80,7 +92,7 @@ returns-2 c =
     let g = c .before .before .before .before in
     let k = g .before .before in
     let put = c .before .before .put-set .ensures in
-    (accepted k .0, (g .before .advanced .ensures, accepted k .1, put ∙ ap (λ (n : ℕ). entered (now (s k .args .table)) n (q k)) (g .address-of .ensures)))
+    (accepted k .0, (g .before .advanced .ensures, accepted k .1, put ∙ ap (λ (n : ℕ). entered (now (s k .args .table)) n (q k)) (g .due-of .ensures)))
 
 pub read-spec : {M : Type 1} → statement M
 read-spec =
@@ -90,7 +102,7 @@ read-spec =
     enum-known-r
     enum-known-q
     advanced-requires
-    address-of-requires
+    due-of-requires
     cast-put-set
     put-set-requires
     same-length

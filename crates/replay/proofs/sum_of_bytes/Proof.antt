@@ -1,4 +1,4 @@
--- The index goes up to the length.
+-- The index goes up to what is summed, which is no more than the length.
 use Prim.Native.Nat.{_-_, _≤_}
 use lib.ListN.{length}
 use borrow.Author.Needs.{needs}
@@ -6,10 +6,13 @@ use Rattle.replay.proofs.sum_of_bytes.Statement.{statement}
 use Rattle.replay.proofs.sum_of_bytes.Tie as tie
 
 abbrev Inv-loop : tie.InvT-loop
-Inv-loop sum bytes v₀ i₀ v i = i ≤ length bytes
+Inv-loop sum bytes lent end v₀ i₀ v i = (i ≤ end) × (end ≤ length bytes)
 
 abbrev μ-loop : tie.MeasureT-loop
-μ-loop sum bytes v₀ i₀ v i = length bytes - i
+μ-loop sum bytes lent end v₀ i₀ v i = end - i
+
+guarded-requires : tie.Need-guarded-requires Inv-loop μ-loop
+guarded-requires c κs = search needs
 
 loop-holds : tie.Need-loop-holds Inv-loop μ-loop
 loop-holds c = search needs
@@ -41,6 +44,7 @@ sum-of-bytes-spec =
     (tie.spec
     Inv-loop
     μ-loop
+    guarded-requires
     loop-holds
     shared-slice-read-number-of-byte
     number-of-byte-requires

@@ -4,9 +4,9 @@ use Rattle.standard.specs.Calls.{Written}
 use Rattle.planes.specs.Places.{block}
 use Rattle.planes.proofs.Blocks.{no-rows, none-written, one-more}
 use Rattle.samples.specs.Steps.{stepTo}
-use Rattle.samples.specs.Blocks.{byEdge}
+use Rattle.samples.specs.Blocks.{compared}
 use Rattle.samples.proofs.Assembly.{at-end, lent-row}
-use Rattle.samples.proofs.Reach.{near-row}
+use Rattle.samples.proofs.Reach.{reach-row}
 use Rattle.samples.proofs.edge_rows.Statement.{statement}
 use Rattle.samples.proofs.edge_rows.Tie as tie
 use Rattle.samples.proofs.edge_rows.Reads as reads
@@ -14,7 +14,7 @@ use Rattle.samples.proofs.edge_rows.Lts as lts
 use Rattle.samples.proofs.edge_line.Reads as edge-line-reads
 
 abbrev Inv-loop : tie.InvT-loop
-Inv-loop l m a b r plane out₀ y₀ out y = (r .y0 ≤ y) × (y ≤ r .y1) × Written (l .width) (l .height) (block (r .x0) (r .x1) (r .y0) y) (byEdge l m (stepTo a) (stepTo b) plane) out₀ out
+Inv-loop l m a b r plane out₀ y₀ out y = (r .y0 ≤ y) × (y ≤ r .y1) × Written (l .width) (l .height) (block (r .x0) (r .x1) (r .y0) y) (compared l m (stepTo a) (stepTo b) plane) out₀ out
 
 abbrev μ-loop : tie.MeasureT-loop
 μ-loop l m a b r plane out₀ y₀ out y = r .y1 - y
@@ -30,7 +30,7 @@ edge-line-requires c κs =
     let t = c .before in
     let a = t .before .before in
     let st = a .before .before .before .before .before in
-    ((lent-row (st .pre .0) (a .loop .y) (a .loop .inv .0) (t .if2 .taken) (a .loop .inv .2 .long), a .before .if1 .taken), (st .pre .1, near-row (a .loop .y) (a .loop .inv .0) (t .if2 .taken) (st .pre .2), near-row (a .loop .y) (a .loop .inv .0) (t .if2 .taken) (st .pre .3)))
+    ((lent-row (st .pre .0) (a .loop .y) (a .loop .inv .0) (t .if2 .taken) (a .loop .inv .2 .long), a .before .if1 .taken), (st .pre .1, reach-row (st .args .l) (stepTo (st .args .a)) (st .args .r) (a .loop .y) (a .loop .inv .0) (t .if2 .taken) (st .pre .2), reach-row (st .args .l) (stepTo (st .args .b)) (st .args .r) (a .loop .y) (a .loop .inv .0) (t .if2 .taken) (st .pre .3)))
 
 add-y : tie.Need-add-y Inv-loop μ-loop
 add-y c =

@@ -70,36 +70,42 @@ moves-for-requires-2 c κs = search needs
 edge-block-requires : tie.Need-edge-block-requires
 edge-block-requires c κs =
     let m = c .before in
-    let st = m .before .before .before .before .before .before in (
-      (st .pre .lent, st .pre .some-columns, st .pre .some-rows, subst Legal (m .before .before .set2 .given .1) (st .pre .legal)),
-      (room-for (st .pre) _ (edge-moves m), under-top (st .pre) _ (edge-moves m)),
-    )
+    let st = m .before .before .before .before .before .before in
+    record {
+      lent = st .pre .lent;
+      some-columns = st .pre .some-columns;
+      some-rows = st .pre .some-rows;
+      class-legal = subst Legal (m .before .before .set2 .given .1) (st .pre .legal);
+      room = room-for (st .pre) _ (edge-moves m);
+      under = under-top (st .pre) _ (edge-moves m);
+      reaches = st .pre .reaches;
+    }
 
 same-length : tie.Need-same-length
 same-length c = search needs
 
 returns : tie.Need-returns
-returns c =
+returns c context g =
     let w = c .before .before in
-    off-block (w .before .before .before .before .before .before .pre) (w .before .before .enum-told .given .1) (w .copy-rows .ensures)
+    off-block (w .before .before .before .before .before .before .pre) g (w .before .before .enum-told .given .1) (w .copy-rows .ensures)
 
 same-length-2 : tie.Need-same-length-2
 same-length-2 c = search needs
 
 returns-2 : tie.Need-returns-2
-returns-2 c =
+returns-2 c context g =
     let w = c .before .before in
     let m = w .before .before in
-    band-block (m .before .before .before .before .before .before .pre) (m .before .before .set .given .1) (band-moves m) (w .band-rows .ensures)
+    band-block (m .before .before .before .before .before .before .pre) g (m .before .before .set .given .1) (band-moves m) (w .band-rows .ensures)
 
 same-length-3 : tie.Need-same-length-3
 same-length-3 c = search needs
 
 returns-3 : tie.Need-returns-3
-returns-3 c =
+returns-3 c context g =
     let w = c .before .before in
     let m = w .before .before in
-    edge-block (m .before .before .before .before .before .before .pre) (m .before .before .set2 .given .1) (edge-moves m) (w .edge-block .ensures)
+    edge-block (m .before .before .before .before .before .before .pre) g (subst Legal (m .before .before .set2 .given .1) (m .before .before .before .before .before .before .pre .legal)) (m .before .before .set2 .given .1) (edge-moves m) (w .edge-block .ensures)
 
 pub filter-block-spec : {M : Type 1} → statement M
 filter-block-spec =

@@ -1,6 +1,5 @@
 -- By the two tests: bytes that encode no set, a set that breaks the rules, and the set.
 use borrow.Author.Needs.{needs}
-use Rattle.standard.specs.Sets.{switchesOf}
 use Rattle.standard.proofs.Answers.{passed, failed}
 use Rattle.sets.proofs.Finding.{no-code, not-ruled, holds}
 use Rattle.sets.proofs.get_set.Statement.{statement}
@@ -33,7 +32,7 @@ returns c =
     let b = c .before .before .before .get-six2 in
     let d = c .before .before .get-six3 in
     let s = c .before .before .before .before .before .before .args in
-    no-code (switchesOf (s .p)) (s .table .now) (s .k) (a .result) (b .result) (d .result) (a .ensures) (b .ensures) (d .ensures)
+    no-code (s .table .now) (s .k) (a .result) (b .result) (d .result) (a .ensures) (b .ensures) (d .ensures)
     (failed (c .before .are-codes .result) (c .before .are-codes .ensures) (c .if1 .taken))
 
 is-ruled-requires : tie.Need-is-ruled-requires
@@ -45,7 +44,7 @@ returns-2 c =
     let b = c .before .before .before .before .before .get-six2 in
     let d = c .before .before .before .before .get-six3 in
     let s = c .before .before .before .before .before .before .before .before .args in
-    not-ruled (switchesOf (s .p)) (s .table .now) (s .k) (a .result) (b .result) (d .result) (a .ensures) (b .ensures) (d .ensures)
+    not-ruled (s .table .now) (s .k) (a .result) (b .result) (d .result) (a .ensures) (b .ensures) (d .ensures)
     (failed (c .before .is-ruled .result) (c .before .is-ruled .ensures) (c .if2 .taken))
 
 offsets-of-requires : tie.Need-offsets-of-requires
@@ -68,7 +67,7 @@ returns-3 c =
     let ruled-test = c .before .before .before .before .is-ruled in
     let ruled = passed (ruled-test .result) (ruled-test .ensures) (c .before .before .before .if2 .left) in
     rw (c .before .before .offsets-of .ensures, c .before .offsets-of2 .ensures, c .offsets-of3 .ensures)
-    (holds (switchesOf (s .p)) (s .table .now) (s .k) (a .result) (b .result) (d .result) (a .ensures) (b .ensures) (d .ensures) codes ruled)
+    (holds (s .table .now) (s .k) (a .result) (b .result) (d .result) (a .ensures) (b .ensures) (d .ensures) codes ruled)
 
 pub get-set-spec : {M : Type 1} → statement M
 get-set-spec =

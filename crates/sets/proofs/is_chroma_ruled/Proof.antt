@@ -11,8 +11,8 @@ is-fit-at-requires c κs = search needs
 
 returns : tie.Need-returns
 returns c =
-    let s = c .before .before .before .args in
-    chroma-on (s .p) (s .cb) (s .cr) false (c .before .before .if1 .taken)
+    let a = c .before .before .before .args in
+    chroma-on (a .s) (a .cb) (a .cr) false (c .before .before .if1 .taken)
     (λ f. failed (c .before .is-fit-at .result) (c .before .is-fit-at .ensures) (c .if2 .taken) (f .0))
 
 is-fit-at-requires-2 : tie.Need-is-fit-at-requires-2
@@ -20,8 +20,8 @@ is-fit-at-requires-2 c κs = search needs
 
 returns-2 : tie.Need-returns-2
 returns-2 c =
-    let s = c .before .before .before .before .before .args in
-    chroma-on (s .p) (s .cb) (s .cr) false (c .before .before .before .before .if1 .taken)
+    let a = c .before .before .before .before .before .args in
+    chroma-on (a .s) (a .cb) (a .cr) false (c .before .before .before .before .if1 .taken)
     (λ f. failed (c .before .is-fit-at2 .result) (c .before .is-fit-at2 .ensures) (c .if3 .taken) (f .1))
 
 is-shared-requires : tie.Need-is-shared-requires
@@ -32,8 +32,8 @@ returns-3 c =
     let h-test = c .before .before .before .before .is-fit-at in
     let h = passed (h-test .result) (h-test .ensures) (c .before .before .before .if2 .left) in
     let g = passed (c .before .before .is-fit-at2 .result) (c .before .before .is-fit-at2 .ensures) (c .before .if3 .left) in
-    let s = c .before .before .before .before .before .before .args in
-    chroma-on (s .p) (s .cb) (s .cr) (c .is-shared .result) (c .before .before .before .before .before .if1 .taken)
+    let a = c .before .before .before .before .before .before .args in
+    chroma-on (a .s) (a .cb) (a .cr) (c .is-shared .result) (c .before .before .before .before .before .if1 .taken)
     (tell-same (c .is-shared .result) (λ s. (h, g, s)) (λ f. f .2) (c .is-shared .ensures))
 
 is-off-requires : tie.Need-is-off-requires
@@ -41,8 +41,8 @@ is-off-requires c κs = search needs
 
 returns-4 : tie.Need-returns-4
 returns-4 c =
-    let s = c .before .before .before .args in
-    chroma-off (s .p) (s .cb) (s .cr) false (c .before .before .if1 .left)
+    let a = c .before .before .before .args in
+    chroma-off (a .s) (a .cb) (a .cr) false (c .before .before .if1 .left)
     (λ f. failed (c .before .is-off .result) (c .before .is-off .ensures) (c .if4 .taken) (f .0))
 
 is-off-requires-2 : tie.Need-is-off-requires-2
@@ -51,8 +51,8 @@ is-off-requires-2 c κs = search needs
 returns-5 : tie.Need-returns-5
 returns-5 c =
     let h = passed (c .before .before .is-off .result) (c .before .before .is-off .ensures) (c .before .if4 .left) in
-    let s = c .before .before .before .before .args in
-    chroma-off (s .p) (s .cb) (s .cr) (c .is-off2 .result) (c .before .before .before .if1 .left)
+    let a = c .before .before .before .before .args in
+    chroma-off (a .s) (a .cb) (a .cr) (c .is-off2 .result) (c .before .before .before .if1 .left)
     (tell-same (c .is-off2 .result) (λ g. (h, g)) (λ f. f .1) (c .is-off2 .ensures))
 
 pub is-chroma-ruled-spec : {M : Type 1} → statement M

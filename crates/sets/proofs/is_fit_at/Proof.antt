@@ -15,7 +15,7 @@ is-fit-requires : tie.Need-is-fit-requires
 is-fit-requires c κs = search needs
 
 returns : tie.Need-returns
-returns c = subst (λ (m : ℕ). Tells (Fits m (says (c .before .before .args .s))) (c .is-fit .result)) (c .before .most-of .ensures .0) (c .is-fit .ensures)
+returns c = subst (λ (m : ℕ). Tells (Fits m (says (c .before .before .args .six))) (c .is-fit .result)) (c .before .most-of .ensures .0) (c .is-fit .ensures)
 
 pub is-fit-at-spec : {M : Type 1} → statement M
 is-fit-at-spec = tie.close (tie.spec most-of-requires is-fit-requires returns)

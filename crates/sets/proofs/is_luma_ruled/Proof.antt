@@ -10,7 +10,7 @@ is-fit-at-requires c κs = search needs
 returns : tie.Need-returns
 returns c =
     let a = c .before .before .args in
-    luma-on (a .p) (a .s) (c .is-fit-at .result) (c .before .if1 .taken) (c .is-fit-at .ensures)
+    luma-on (a .s) (a .luma) (c .is-fit-at .result) (c .before .if1 .taken) (c .is-fit-at .ensures)
 
 is-off-requires : tie.Need-is-off-requires
 is-off-requires c κs = search needs
@@ -18,7 +18,7 @@ is-off-requires c κs = search needs
 returns-2 : tie.Need-returns-2
 returns-2 c =
     let a = c .before .before .args in
-    luma-off (a .p) (a .s) (c .is-off .result) (c .before .if1 .left) (c .is-off .ensures)
+    luma-off (a .s) (a .luma) (c .is-off .result) (c .before .if1 .left) (c .is-off .ensures)
 
 pub is-luma-ruled-spec : {M : Type 1} → statement M
 is-luma-ruled-spec = tie.close (tie.spec is-fit-at-requires returns is-off-requires returns-2)

@@ -6,7 +6,7 @@ use denote.Ref.{now}
 use lib.ListN.{getD}
 use lib.Dec.{leb}
 use Rattle.standard.proofs.Answers.{tell}
-use Rattle.steamgusset.specs.Boundary.{Held}
+use Rattle.steamgusset.specs.Boundary.{CHROMA, Held}
 use Rattle.steamgusset.proofs.is_held.Statement.{statement}
 use Rattle.steamgusset.proofs.is_held.Tie as tie
 
@@ -33,7 +33,7 @@ element-copy-out-result c = search needs
 
 returns-4 : tie.Need-returns-4
 returns-4 c =
-    let n = getD (now (c .before .before .before .before .before .before .before .args .a)) 6 0 in
+    let n = getD (now (c .before .before .before .before .before .before .before .args .a)) CHROMA 0 in
     tell {P = Held (now (c .before .before .before .before .before .before .before .args .a))} (leb n 1)
     (λ t. record { format = c .before .before .before .before .before .if1 .left; depth = c .before .before .before .if2 .left; luma = c .before .if3 .left; chroma = leb-true n 1 t })
     (λ f h. let m = leb-false n 1 f in omega (arith, h .chroma))

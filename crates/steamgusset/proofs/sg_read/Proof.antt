@@ -13,7 +13,7 @@ use Rattle.standard.specs.Reasons.{readReasons}
 use Rattle.standard.specs.Contracts.{ReadEnsures}
 use Rattle.standard.proofs.Answers.{passed, failed}
 use Rattle.steamgusset.specs.Boundary.{numbersOf, stateOf, Held}
-use Rattle.steamgusset.proofs.Crossing.{unheld, refused, accepted, entered-alone}
+use Rattle.steamgusset.proofs.Crossing.{unheld, refused, accepted}
 use Rattle.steamgusset.proofs.sg_read.Statement.{statement}
 use Rattle.steamgusset.proofs.sg_read.Tie as tie
 
@@ -37,9 +37,6 @@ judged c x e =
     let t = stateOf (now (s c .args .state)) in
     subst (λ (y : ReadAnswer). Verdict c t (record { answer = y; state = c .read .result .state })) e
     (subst (λ (u : State). Verdict c u (c .read .result)) (c .before .before .state-of .ensures) (c .read .ensures))
-
-long : (c : tie.After-put-set-arg) → length (now (s (c .before .before .before .before .before .before .before .before) .args .set)) ≡ 18
-long c = search needs
 
 -- ---- the code
 
@@ -69,8 +66,8 @@ enum-known-a-2 c = search needs
 numbers-of-requires : tie.Need-numbers-of-requires
 numbers-of-requires c κs = search needs
 
-put-set-requires : tie.Need-put-set-requires
-put-set-requires c κs = search needs
+say-set-requires : tie.Need-say-set-requires
+say-set-requires c κs = search needs
 
 same-length : tie.Need-same-length
 same-length c = search needs
@@ -92,7 +89,7 @@ returns-3 c =
     let t = judged d _ (q .1) in
     accepted (R (s d)) ⊥ (held d) (t .0) (
       c .before .before .numbers-of .ensures ∙ ap numbersOf (t .1 .0),
-      record { set = q .0 .0; means = t .1 .1; stored = t .1 .2; encoded = c .put-set .ensures ∙ entered-alone (now (s d .args .set)) (q .0 .0) (long (c .before)) },
+      record { set = q .0 .0; means = t .1 .1; stored = t .1 .2; encoded = c .say-set .ensures .0 },
     )
 
 pub sg-read-spec : {M : Type 1} → statement M
@@ -107,7 +104,7 @@ sg-read-spec =
     number-requires
     enum-known-a-2
     numbers-of-requires
-    put-set-requires
+    say-set-requires
     same-length
     returns-2
     same-length-2

@@ -5,7 +5,6 @@ use mathlib.Core.Bool.{true}
 use mathlib.Core.List.{[], _∷_}
 use native.Mathlib.Omega.{arith}
 use lib.ListN.{length, length-append}
-use Rattle.standard.specs.Sets.{switchesOf}
 use Rattle.standard.specs.Bins.{full}
 use Rattle.standard.specs.Means.{notTaken}
 use Rattle.standard.proofs.Reader.{setOf}
@@ -58,7 +57,7 @@ returns c =
     let a = c .before .before .args in
     let left = setOf (a .left) in
     let up = setOf (a .up) in
-    let bins = formBins (switchesOf (a .p)) left up (a .q) in
+    let bins = formBins (a .s) left up (a .q) in
     (sym (ap (λ (f : Form). length (bins f)) (c .enum-told .given .1)), omega arith)
 
 returns-2 : tie.Need-returns-2
@@ -67,7 +66,7 @@ returns-2 c =
     let a = c .before .before .args in
     let left = setOf (a .left) in
     let up = setOf (a .up) in
-    let bins = formBins (switchesOf (a .p)) left up (a .q) in
+    let bins = formBins (a .s) left up (a .q) in
     (sym (ap (λ (f : Form). length (bins f)) (c .enum-told2 .given .1)), omega arith)
 
 returns-3 : tie.Need-returns-3
@@ -76,7 +75,7 @@ returns-3 c =
     let a = c .before .before .before .args in
     let left = setOf (a .left) in
     let up = setOf (a .up) in
-    let bins = formBins (switchesOf (a .p)) left up (a .q) in
+    let bins = formBins (a .s) left up (a .q) in
     let both = ap (λ (f : Form). length (bins f)) (c .before .enum-told3 .given .1) ∙ length-append (notTaken left) (true ∷ []) in
     (omega (arith, c .bins-of-not-taken .ensures .0, both), omega (arith, c .bins-of-not-taken .ensures .1))
 
@@ -86,8 +85,8 @@ returns-4 c =
     let a = c .before .before .before .before .before .args in
     let left = setOf (a .left) in
     let up = setOf (a .up) in
-    let bins = formBins (switchesOf (a .p)) left up (a .q) in
-    let all = ap (λ (f : Form). length (bins f)) (c .before .before .before .enum-told4 .given .1) ∙ three-length (notTaken left) (notTaken up) (full (switchesOf (a .p)) (a .q)) in
+    let bins = formBins (a .s) left up (a .q) in
+    let all = ap (λ (f : Form). length (bins f)) (c .before .before .before .enum-told4 .given .1) ∙ three-length (notTaken left) (notTaken up) (full (a .s) (a .q)) in
     (omega (arith, c .before .before .bins-of-not-taken2 .ensures .0, c .before .bins-of-not-taken3 .ensures .0, c .bins-of-full .ensures .0, all), omega (arith, c .before .before .bins-of-not-taken2 .ensures .1, c .before .bins-of-not-taken3 .ensures .1, c .bins-of-full .ensures .1))
 
 pub bins-of-form-spec : {M : Type 1} → statement M

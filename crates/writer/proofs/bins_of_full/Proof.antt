@@ -4,7 +4,6 @@ use mathlib.Core.Path.{ap, ap₂, _∙_}
 use Prim.Native.Nat.{ℕ}
 use native.Mathlib.Omega.{arith}
 use lib.ListN.{length}
-use Rattle.standard.specs.Sets.{switchesOf}
 use Rattle.writer.proofs.Lengths.{lumaBins, chromaBins, full-parts}
 use Rattle.writer.proofs.bins_of_full.Statement.{statement}
 use Rattle.writer.proofs.bins_of_full.Tie as tie
@@ -35,9 +34,9 @@ add-result c = search needs
 returns : tie.Need-returns
 returns c =
     let a = c .before .before .before .before .before .args in
-    let luma = ap (λ (m : ℕ). length (lumaBins (a .p .luma) m (a .q .luma))) (c .before .before .before .before .most-of .ensures .0) in
-    let chroma = ap₂ (λ (m n : ℕ). length (chromaBins (a .p .chroma) m (a .q .cb) n (a .q .cr))) (c .before .before .most-of2 .ensures .0) (c .before .most-of3 .ensures .0) in
-    (omega (arith, c .before .before .before .bins-of-luma .ensures .0, luma, c .bins-of-chroma .ensures .0, chroma, full-parts (switchesOf (a .p)) (a .q)), omega (arith, c .before .before .before .bins-of-luma .ensures .1, c .bins-of-chroma .ensures .1))
+    let luma = ap (λ (m : ℕ). length (lumaBins (a .s .luma) m (a .q .luma))) (c .before .before .before .before .most-of .ensures .0) in
+    let chroma = ap₂ (λ (m n : ℕ). length (chromaBins (a .s .chroma) m (a .q .cb) n (a .q .cr))) (c .before .before .most-of2 .ensures .0) (c .before .most-of3 .ensures .0) in
+    (omega (arith, c .before .before .before .bins-of-luma .ensures .0, luma, c .bins-of-chroma .ensures .0, chroma, full-parts (a .s) (a .q)), omega (arith, c .before .before .before .bins-of-luma .ensures .1, c .bins-of-chroma .ensures .1))
 
 pub bins-of-full-spec : {M : Type 1} → statement M
 bins-of-full-spec =

@@ -2,7 +2,6 @@
 use borrow.Author.Needs.{needs}
 use mathlib.Core.Path.{sym, _∙_}
 use borrow.Author.Tests.{not-true, not-false}
-use Rattle.standard.specs.Sets.{switchesOf}
 use Rattle.standard.proofs.Reader.{setOf}
 use Rattle.standard.proofs.Answers.{told, told-not}
 use Rattle.writer.proofs.Chosen.{is-copy, as-left, ruled, has-meant, unmeant-off, meant-by-up}
@@ -20,7 +19,7 @@ is-valid-requires c κs = search needs
 returns : tie.Need-returns
 returns c =
     let a = c .before .before .args in
-    let s = switchesOf (a .p) in
+    let s = a .s in
     has-meant s (setOf (a .left)) (setOf (a .up)) (a .q) (ruled (told (c .before .is-valid .ensures) (c .if1 .taken)))
 
 any-on-requires : tie.Need-any-on-requires
@@ -29,7 +28,7 @@ any-on-requires c κs = search needs
 returns-2 : tie.Need-returns-2
 returns-2 c =
     let a = c .before .before .before .before .args in
-    let s = switchesOf (a .p) in
+    let s = a .s in
     unmeant-off s (setOf (a .left)) (setOf (a .up)) (a .q) (sym (c .before .any-on .ensures) ∙ not-true _ (c .if2 .taken)) (told-not (c .before .before .before .is-valid .ensures) (c .before .before .if1 .left))
 
 is-copy-requires : tie.Need-is-copy-requires
@@ -38,7 +37,7 @@ is-copy-requires c κs = search needs
 returns-3 : tie.Need-returns-3
 returns-3 c =
     let a = c .before .before .before .before .before .before .args in
-    let s = switchesOf (a .p) in
+    let s = a .s in
     has-meant s (setOf (a .left)) (setOf (a .up)) (a .q) (as-left (sym (c .before .before .before .any-on .ensures) ∙ not-false _ (c .before .before .if2 .left)) (is-copy (sym (c .before .is-copy .ensures) ∙ c .if3 .taken)))
 
 is-copy-requires-2 : tie.Need-is-copy-requires-2
@@ -47,7 +46,7 @@ is-copy-requires-2 c κs = search needs
 returns-4 : tie.Need-returns-4
 returns-4 c =
     let a = c .before .before .before .before .before .before .before .args in
-    let s = switchesOf (a .p) in
+    let s = a .s in
     let on = sym (c .before .before .before .before .any-on .ensures) ∙ not-false _ (c .before .before .before .if2 .left) in
     let invalid = told-not (c .before .before .before .before .before .before .is-valid .ensures) (c .before .before .before .before .before .if1 .left) in
     meant-by-up s (setOf (a .left)) (setOf (a .up)) (a .q) on invalid (sym (c .before .before .is-copy .ensures) ∙ c .before .if3 .left) (c .is-copy2 .result) (c .is-copy2 .ensures)

@@ -5,7 +5,6 @@ use mathlib.Core.Bool.{true}
 use mathlib.Core.List.{[], _∷_, _++_}
 use native.Mathlib.Omega.{arith}
 use lib.ListN.{length}
-use Rattle.standard.specs.Sets.{switchesOf}
 use Rattle.standard.specs.Bins.{fixedLength, full}
 use Rattle.standard.specs.Means.{notTaken}
 use Rattle.standard.proofs.Reader.{setOf}
@@ -29,12 +28,12 @@ enum-told-2 c = search needs
 bits-requires : tie.Need-bits-requires
 unfolding formBins
 bits-requires c κs =
-    let s = c .before .before .before .before in
-    let a = s .args in
+    let start = c .before .before .before .before in
+    let a = start .args in
     let left = notTaken (setOf (a .left)) in
     let up = notTaken (setOf (a .up)) in
-    let whole = full (switchesOf (a .p)) (a .q) in
-    let r = room-as (sym (ap (λ (f : Form). length (formBins (switchesOf (a .p)) (setOf (a .left)) (setOf (a .up)) (a .q) f)) (c .before .enum-told2 .given .1))) (s .pre .0) in
+    let whole = full (a .s) (a .q) in
+    let r = room-as (sym (ap (λ (f : Form). length (formBins (a .s) (setOf (a .left)) (setOf (a .up)) (a .q) f)) (c .before .enum-told2 .given .1))) (start .pre) in
     (r, omega arith)
 
 enum-told-3 : tie.Need-enum-told-3
@@ -43,23 +42,23 @@ enum-told-3 c = search needs
 put-not-taken-requires : tie.Need-put-not-taken-requires
 unfolding formBins
 put-not-taken-requires c κs =
-    let s = c .before .before .before .before in
-    let a = s .args in
+    let start = c .before .before .before .before in
+    let a = start .args in
     let left = notTaken (setOf (a .left)) in
     let up = notTaken (setOf (a .up)) in
-    let whole = full (switchesOf (a .p)) (a .q) in
-    let r = room-as (sym (ap (λ (f : Form). length (formBins (switchesOf (a .p)) (setOf (a .left)) (setOf (a .up)) (a .q) f)) (c .before .enum-told3 .given .1))) (s .pre .0) in
+    let whole = full (a .s) (a .q) in
+    let r = room-as (sym (ap (λ (f : Form). length (formBins (a .s) (setOf (a .left)) (setOf (a .up)) (a .q) f)) (c .before .enum-told3 .given .1))) (start .pre) in
     room-first left (true ∷ []) r
 
 bits-requires-2 : tie.Need-bits-requires-2
 unfolding formBins
 bits-requires-2 c κs =
-    let s = c .before .before .before .before .before .before .before .before in
-    let a = s .args in
+    let start = c .before .before .before .before .before .before .before .before in
+    let a = start .args in
     let left = notTaken (setOf (a .left)) in
     let up = notTaken (setOf (a .up)) in
-    let whole = full (switchesOf (a .p)) (a .q) in
-    let r = room-as (sym (ap (λ (f : Form). length (formBins (switchesOf (a .p)) (setOf (a .left)) (setOf (a .up)) (a .q) f)) (c .before .before .before .before .before .enum-told3 .given .1))) (s .pre .0) in
+    let whole = full (a .s) (a .q) in
+    let r = room-as (sym (ap (λ (f : Form). length (formBins (a .s) (setOf (a .left)) (setOf (a .up)) (a .q) f)) (c .before .before .before .before .before .enum-told3 .given .1))) (start .pre) in
     (room-rest left (true ∷ []) r (c .before .before .before .put-not-taken .ensures), omega arith)
 
 enum-told-4 : tie.Need-enum-told-4
@@ -68,41 +67,41 @@ enum-told-4 c = search needs
 put-not-taken-requires-2 : tie.Need-put-not-taken-requires-2
 unfolding formBins
 put-not-taken-requires-2 c κs =
-    let s = c .before .before .before .before in
-    let a = s .args in
+    let start = c .before .before .before .before in
+    let a = start .args in
     let left = notTaken (setOf (a .left)) in
     let up = notTaken (setOf (a .up)) in
-    let whole = full (switchesOf (a .p)) (a .q) in
-    let r = room-as (sym (ap (λ (f : Form). length (formBins (switchesOf (a .p)) (setOf (a .left)) (setOf (a .up)) (a .q) f)) (c .before .enum-told4 .given .1))) (s .pre .0) in
+    let whole = full (a .s) (a .q) in
+    let r = room-as (sym (ap (λ (f : Form). length (formBins (a .s) (setOf (a .left)) (setOf (a .up)) (a .q) f)) (c .before .enum-told4 .given .1))) (start .pre) in
     room-first left (up ++ whole) r
 
 put-not-taken-requires-3 : tie.Need-put-not-taken-requires-3
 unfolding formBins
 put-not-taken-requires-3 c κs =
-    let s = c .before .before .before .before .before .before .before .before in
-    let a = s .args in
+    let start = c .before .before .before .before .before .before .before .before in
+    let a = start .args in
     let left = notTaken (setOf (a .left)) in
     let up = notTaken (setOf (a .up)) in
-    let whole = full (switchesOf (a .p)) (a .q) in
-    let r = room-as (sym (ap (λ (f : Form). length (formBins (switchesOf (a .p)) (setOf (a .left)) (setOf (a .up)) (a .q) f)) (c .before .before .before .before .before .enum-told4 .given .1))) (s .pre .0) in
+    let whole = full (a .s) (a .q) in
+    let r = room-as (sym (ap (λ (f : Form). length (formBins (a .s) (setOf (a .left)) (setOf (a .up)) (a .q) f)) (c .before .before .before .before .before .enum-told4 .given .1))) (start .pre) in
     room-first up whole (room-rest left (up ++ whole) r (c .before .before .before .put-not-taken2 .ensures))
 
 put-full-requires : tie.Need-put-full-requires
 unfolding formBins
 put-full-requires c κs =
-    let s = c .before .before .before .before .before .before .before .before .before .before .before .before in
-    let a = s .args in
+    let start = c .before .before .before .before .before .before .before .before .before .before .before .before in
+    let a = start .args in
     let left = notTaken (setOf (a .left)) in
     let up = notTaken (setOf (a .up)) in
-    let whole = full (switchesOf (a .p)) (a .q) in
-    let r = room-as (sym (ap (λ (f : Form). length (formBins (switchesOf (a .p)) (setOf (a .left)) (setOf (a .up)) (a .q) f)) (c .before .before .before .before .before .before .before .before .before .enum-told4 .given .1))) (s .pre .0) in
-    (room-rest up whole (room-rest left (up ++ whole) r (c .before .before .before .before .before .before .before .put-not-taken2 .ensures)) (c .before .before .before .put-not-taken3 .ensures), s .pre .1)
+    let whole = full (a .s) (a .q) in
+    let r = room-as (sym (ap (λ (f : Form). length (formBins (a .s) (setOf (a .left)) (setOf (a .up)) (a .q) f)) (c .before .before .before .before .before .before .before .before .before .enum-told4 .given .1))) (start .pre) in
+    room-rest up whole (room-rest left (up ++ whole) r (c .before .before .before .before .before .before .before .put-not-taken2 .ensures)) (c .before .before .before .put-not-taken3 .ensures)
 
 returns : tie.Need-returns
 unfolding formBins
 returns c =
     let a = c .before .before .before .args in
-    puts-as (sym (ap (formBins (switchesOf (a .p)) (setOf (a .left)) (setOf (a .up)) (a .q)) (c .enum-told .given .1))) (puts-none _ _)
+    puts-as (sym (ap (formBins (a .s) (setOf (a .left)) (setOf (a .up)) (a .q)) (c .enum-told .given .1))) (puts-none _ _)
 
 same-length : tie.Need-same-length
 same-length c = search needs
@@ -111,7 +110,7 @@ returns-2 : tie.Need-returns-2
 unfolding formBins fixedLength
 returns-2 c =
     let a = c .before .before .before .before .before .before .before .args in
-    puts-as (sym (ap (formBins (switchesOf (a .p)) (setOf (a .left)) (setOf (a .up)) (a .q)) (c .before .before .before .before .enum-told2 .given .1))) (c .before .before .bits .ensures)
+    puts-as (sym (ap (formBins (a .s) (setOf (a .left)) (setOf (a .up)) (a .q)) (c .before .before .before .before .enum-told2 .given .1))) (c .before .before .bits .ensures)
 
 same-length-2 : tie.Need-same-length-2
 same-length-2 c = search needs
@@ -120,7 +119,7 @@ returns-3 : tie.Need-returns-3
 unfolding formBins fixedLength
 returns-3 c =
     let a = c .before .before .before .before .before .before .before .before .before .before .before .args in
-    puts-as (sym (ap (formBins (switchesOf (a .p)) (setOf (a .left)) (setOf (a .up)) (a .q)) (c .before .before .before .before .before .before .before .before .enum-told3 .given .1))) (puts-then (c .before .before .before .before .before .before .put-not-taken .ensures) (c .before .before .bits2 .ensures))
+    puts-as (sym (ap (formBins (a .s) (setOf (a .left)) (setOf (a .up)) (a .q)) (c .before .before .before .before .before .before .before .before .enum-told3 .given .1))) (puts-then (c .before .before .before .before .before .before .put-not-taken .ensures) (c .before .before .bits2 .ensures))
 
 same-length-3 : tie.Need-same-length-3
 same-length-3 c = search needs
@@ -129,7 +128,7 @@ returns-4 : tie.Need-returns-4
 unfolding formBins
 returns-4 c =
     let a = c .before .before .before .before .before .before .before .before .before .before .before .before .before .before .before .args in
-    puts-as (sym (ap (formBins (switchesOf (a .p)) (setOf (a .left)) (setOf (a .up)) (a .q)) (c .before .before .before .before .before .before .before .before .before .before .before .before .enum-told4 .given .1))) (puts-then (c .before .before .before .before .before .before .before .before .before .before .put-not-taken2 .ensures) (puts-then (c .before .before .before .before .before .before .put-not-taken3 .ensures) (c .before .before .put-full .ensures)))
+    puts-as (sym (ap (formBins (a .s) (setOf (a .left)) (setOf (a .up)) (a .q)) (c .before .before .before .before .before .before .before .before .before .before .before .before .enum-told4 .given .1))) (puts-then (c .before .before .before .before .before .before .before .before .before .before .put-not-taken2 .ensures) (puts-then (c .before .before .before .before .before .before .put-not-taken3 .ensures) (c .before .before .put-full .ensures)))
 
 pub put-form-spec : {M : Type 1} → statement M
 put-form-spec =

@@ -2,7 +2,6 @@
 use borrow.Author.Needs.{needs}
 use mathlib.Core.Path.{refl}
 use native.Mathlib.Omega.{arith}
-use Rattle.standard.specs.Sets.{switchesOf}
 use Rattle.standard.proofs.Reader.{setOf}
 use Rattle.sink.proofs.Packed.{puts-as, puts-packed}
 use Rattle.writer.proofs.Chosen.{chosen-bins, chosen-count}
@@ -26,7 +25,7 @@ add-if1 c = search needs
 returns : tie.Need-returns
 returns c =
     let a = c .before .before .before .before .args in
-    let s = switchesOf (a .p) in
+    let s = a .s in
     let n = chosen-count s (setOf (a .left)) (setOf (a .up)) (a .q) (c .before .bins-of-form .ensures .0) (c .before .before .choose .ensures) in
     (omega (arith, n, c .if1 .taken), refl)
 
@@ -39,7 +38,7 @@ same-length c = search needs
 returns-2 : tie.Need-returns-2
 returns-2 c =
     let a = c .before .before .before .before .before .before .before .before .args in
-    let s = switchesOf (a .p) in
+    let s = a .s in
     let n = chosen-count s (setOf (a .left)) (setOf (a .up)) (a .q) (c .before .before .before .before .before .bins-of-form .ensures .0) (c .before .before .before .before .before .before .choose .ensures) in
     (omega (arith, n, c .before .before .before .before .if1 .left), n, puts-packed (puts-as (chosen-bins s (setOf (a .left)) (setOf (a .up)) (a .q) (c .before .before .before .before .before .before .choose .ensures)) (c .before .before .put-form .ensures)))
 

@@ -1,8 +1,9 @@
 -- No neighbour has no entry; of a neighbour's entry, what is found there.
-use mathlib.Core.Path.{_≡_, refl, sym, ap, subst}
+use mathlib.Core.Path.{_≡_, refl, sym, ap, subst, subst₂}
 use borrow.Author.Needs.{needs}
 use denote.Ref.{now}
 use Rattle.standard.specs.declared.Near.the-variants as beside
+use Rattle.standard.specs.declared.Switches.{Switches}
 use Rattle.standard.specs.Sets.{switchesOf}
 use Rattle.geometry.specs.declared.Near.{Near}
 use Rattle.geometry.specs.Geometry.{nearOf}
@@ -16,6 +17,9 @@ use Rattle.writing.specs.declared.Side.the-variants as side
 use Rattle.writing.specs.Writing.{Beside}
 use Rattle.writing.proofs.beside.Statement.{statement}
 use Rattle.writing.proofs.beside.Tie as tie
+
+switches-of-requires : tie.Need-switches-of-requires
+switches-of-requires c κs = search needs
 
 enum-told : tie.Need-enum-told
 enum-told c = search needs
@@ -49,9 +53,11 @@ returns c =
 abbrev s : tie.After-get-set → tie.Start
 s c = c .before .before .before .before .before .before
 
-found : (c : tie.After-get-set) {r : Found} → c .get-set .result ≡ r
-    → Finds (switchesOf (s c .args .state .picture)) (now (s c .args .table)) (c .before .before .k .given .0 .0) r
-found c e = subst (Finds (switchesOf (s c .args .state .picture)) (now (s c .args .table)) (c .before .before .k .given .0 .0)) e (c .get-set .ensures)
+-- by the switches of the CTU that is due
+found : (c : tie.After-get-set) {r : Found} → c .get-set .result ≡ r → Finds (switchesOf (s c .args .state)) (now (s c .args .table)) (c .before .before .k .given .0 .0) r
+found c e =
+    subst₂ (λ (w : Switches) (r : Found). Finds w (now (s c .args .table)) (c .before .before .k .given .0 .0) r)
+    (c .before .before .before .before .switches-of .ensures) e (c .get-set .ensures)
 
 returns-2 : tie.Need-returns-2
 returns-2 c =
@@ -68,6 +74,7 @@ pub beside-spec : {M : Type 1} → statement M
 beside-spec =
     tie.close
     (tie.spec
+    switches-of-requires
     enum-told
     enum-known-k
     cast-get-set

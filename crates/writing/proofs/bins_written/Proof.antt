@@ -1,14 +1,13 @@
 -- What stands beside the CTU is the definitions' left and upper set; with both within the rules, what the set's own reasons say.
 use mathlib.Core.Option.{Option}
-use mathlib.Core.Path.{_≡_, refl, sym, ap, _∙_, subst, subst₂}
+use mathlib.Core.Path.{_≡_, refl, sym, subst, subst₂}
 use Prim.Native.Nat.{ℕ}
 use borrow.Author.Needs.{needs}
 use denote.Ref.{now}
-use Rattle.standard.specs.Picture.{leftOf, aboveOf}
-use Rattle.standard.specs.Reasons.{due}
+use Rattle.standard.specs.Picture.{mergeLeft, mergeUp}
 use Rattle.geometry.specs.Geometry.{nearOf}
 use Rattle.lent.specs.Due.{InTable}
-use Rattle.lent.proofs.Ready.{left-in-table, above-in-table}
+use Rattle.lent.proofs.Ready.{left-in-table, up-in-table}
 use Rattle.writing.specs.declared.Side.{Side}
 use Rattle.writing.specs.Writing.{Beside}
 use Rattle.writing.proofs.Setting.{left-bad, up-bad, beside}
@@ -17,14 +16,8 @@ use Rattle.writing.proofs.bins_written.Tie as tie
 
 -- ---- the neighbours
 
-abbrev s1 : tie.After-left-of → tie.Start
-s1 c = c .before .before .before .before .before
-
-left : (c : tie.After-left-of) → let s = s1 c .args .state in nearOf (c .left-of .result) ≡ leftOf (s .picture) (due s)
-left c = c .left-of .ensures ∙ ap (leftOf (s1 c .args .state .picture)) (c .before .address-of .ensures)
-
-above : (c : tie.After-above-of) → let s = s1 (c .before .before) .args .state in nearOf (c .above-of .result) ≡ aboveOf (s .picture) (due s)
-above c = c .above-of .ensures ∙ ap (aboveOf (s1 (c .before .before) .args .state .picture)) (c .before .before .before .address-of .ensures)
+abbrev s1 : tie.After-merge-left → tie.Start
+s1 c = c .before .before .before
 
 abbrev At : tie.Start → Option ℕ → Side → Type 0
 At s k r = Beside (s .args .state) (now (s .args .table)) k r
@@ -32,28 +25,25 @@ At s k r = Beside (s .args .state) (now (s .args .table)) k r
 abbrev s2 : tie.After-beside2 → tie.Start
 s2 c = s1 (c .before .before .before)
 
-left-side : (c : tie.After-beside2) {r : Side} → c .before .before .beside .result ≡ r → let s = s2 c .args .state in At (s2 c) (leftOf (s .picture) (due s)) r
-left-side c e = subst₂ (λ (k : Option ℕ) (r : Side). At (s2 c) k r) (left (c .before .before .before)) e (c .before .before .beside .ensures)
+left-side : (c : tie.After-beside2) {r : Side} → c .before .before .beside .result ≡ r → At (s2 c) (mergeLeft (s2 c .args .state)) r
+left-side c e = subst₂ (λ (k : Option ℕ) (r : Side). At (s2 c) k r) (c .before .before .before .merge-left .ensures) e (c .before .before .beside .ensures)
 
-up-side : (c : tie.After-beside2) {r : Side} → c .beside2 .result ≡ r → let s = s2 c .args .state in At (s2 c) (aboveOf (s .picture) (due s)) r
-up-side c e = subst₂ (λ (k : Option ℕ) (r : Side). At (s2 c) k r) (above (c .before)) e (c .beside2 .ensures)
+up-side : (c : tie.After-beside2) {r : Side} → c .beside2 .result ≡ r → At (s2 c) (mergeUp (s2 c .args .state)) r
+up-side c e = subst₂ (λ (k : Option ℕ) (r : Side). At (s2 c) k r) (c .before .merge-up .ensures) e (c .beside2 .ensures)
 
 -- ---- the code
 
-address-of-requires : tie.Need-address-of-requires
-address-of-requires c κs = search needs
-
-left-of-requires : tie.Need-left-of-requires
-left-of-requires c κs = search needs
+merge-left-requires : tie.Need-merge-left-requires
+merge-left-requires c κs = search needs
 
 beside-requires : tie.Need-beside-requires
-beside-requires c κs = let s = s1 c in subst (InTable (now (s .args .table))) (sym (left c)) (left-in-table (s .pre))
+beside-requires c κs = let s = s1 c in subst (InTable (now (s .args .table))) (sym (c .merge-left .ensures)) (left-in-table (s .pre))
 
-above-of-requires : tie.Need-above-of-requires
-above-of-requires c κs = search needs
+merge-up-requires : tie.Need-merge-up-requires
+merge-up-requires c κs = search needs
 
 beside-requires-2 : tie.Need-beside-requires-2
-beside-requires-2 c κs = let s = s1 (c .before .before) in subst (InTable (now (s .args .table))) (sym (above c)) (above-in-table (s .pre))
+beside-requires-2 c κs = let s = s1 (c .before .before) in subst (InTable (now (s .args .table))) (sym (c .merge-up .ensures)) (up-in-table (s .pre))
 
 enum-told : tie.Need-enum-told
 enum-told c = search needs
@@ -66,6 +56,9 @@ enum-told-2 c = search needs
 
 enum-known-u : tie.Need-enum-known-u
 enum-known-u c = search needs
+
+switches-of-requires : tie.Need-switches-of-requires
+switches-of-requires c κs = search needs
 
 set-written-requires : tie.Need-set-written-requires
 set-written-requires c κs = search needs
@@ -88,27 +81,29 @@ same-length c = search needs
 returns-3 : tie.Need-returns-3
 returns-3 c =
     let w = c .before .before in
-    let u = w .before .before in
+    let t = w .before .before in
+    let u = t .before in
     let l = u .before .before .before in
     let k = l .before .before .before in
     let a = s2 k .args in
     let x = left-side k (l .before .l .given .1) in
     let y = up-side k (u .before .u .given .1) in
-    beside (a .state) (a .q) (now (a .out)) (now (a .table)) _ x y (w .set-written .result) (w .set-written .ensures)
+    beside (a .state) (a .q) (now (a .out)) (now (a .table)) _ x y (w .set-written .result)
+    (rw (t .switches-of .ensures) at (w .set-written .ensures))
 
 pub bins-written-spec : {M : Type 1} → statement M
 bins-written-spec =
     tie.close
     (tie.spec
-    address-of-requires
-    left-of-requires
+    merge-left-requires
     beside-requires
-    above-of-requires
+    merge-up-requires
     beside-requires-2
     enum-told
     enum-known-l
     enum-told-2
     enum-known-u
+    switches-of-requires
     set-written-requires
     returns
     returns-2

@@ -2,7 +2,6 @@
 use borrow.Author.Needs.{needs}
 use mathlib.Core.Path.{refl, ap}
 use denote.Ref.{now}
-use Rattle.standard.specs.Sets.{switchesOf}
 use Rattle.standard.proofs.Codes.{got, then}
 use Rattle.standard.proofs.Ctu.{fullCode}
 use Rattle.bins.specs.declared.Form.{Form}
@@ -33,7 +32,7 @@ left-read : (c : tie.After-known-told)
 left-read c = known (c .before .before .before .merge .ensures) (ap flagTaken (c .before .left .given .1))
 
 left-room : (c : tie.After-known-told) → Within (now (c .before .before .before .before .before .args .bytes)) (c .before .left .given .0 .1 .0)
-left-room c = next-within (c .before .before .before .before .before .pre .0) (left-read c)
+left-room c = next-within (c .before .before .before .before .before .pre) (left-read c)
 
 returns-2 : tie.Need-returns-2
 unfolding formRead
@@ -51,8 +50,8 @@ enum-told-2 c = search needs
 -- merge left was not taken, and what follows is read from there
 not-left : (c : tie.Else1) {r : Taken Form}
     → let a = c .before .before .before .before .before .before .args in
-    Reads (now (a .bytes)) (c .before .before .left .given .0 .1 .0) (λ l. then (mergeRead (a .has-up) l) (afterUp (switchesOf (a .p)))) r
-    → Reads (now (a .bytes)) (a .self) (formRead (switchesOf (a .p)) (a .has-left) (a .has-up)) r
+    Reads (now (a .bytes)) (c .before .before .left .given .0 .1 .0) (λ l. then (mergeRead (a .has-up) l) (afterUp (a .s))) r
+    → Reads (now (a .bytes)) (a .self) (formRead (a .s) (a .has-left) (a .has-up)) r
 unfolding formRead
 not-left c k = then-took _ (left-read (c .before)) (read-as (λ l. rw (c .if1 .left) refl) k)
 
@@ -73,7 +72,7 @@ returns-4 c =
     not-left (k .before .before .before .before) (then-took _ (up-read k) (made _ (up-room k) (λ l. rw (c .if2 .taken) refl)))
 
 full-requires : tie.Need-full-requires
-full-requires c κs = (up-room (c .before), c .before .before .before .before .before .before .before .before .before .before .before .pre .1)
+full-requires c κs = up-room (c .before)
 
 enum-known-q : tie.Need-enum-known-q
 enum-known-q c = search needs
@@ -84,8 +83,8 @@ enum-told-3 c = search needs
 -- nor merge up
 not-up : (c : tie.Else2) {r : Taken Form}
     → let a = c .before .before .before .before .before .before .before .before .before .before .before .args in
-    Reads (now (a .bytes)) (c .before .before .up .given .0 .1 .0) (λ l. then (fullCode (switchesOf (a .p)) .read l) (λ q l. got (Full q) l)) r
-    → Reads (now (a .bytes)) (a .self) (formRead (switchesOf (a .p)) (a .has-left) (a .has-up)) r
+    Reads (now (a .bytes)) (c .before .before .up .given .0 .1 .0) (λ l. then (fullCode (a .s) .read l) (λ q l. got (Full q) l)) r
+    → Reads (now (a .bytes)) (a .self) (formRead (a .s) (a .has-left) (a .has-up)) r
 not-up c k = not-left (c .before .before .before .before .before) (then-took _ (up-read (c .before)) (read-as (λ l. rw (c .if2 .left) refl) k))
 
 returns-5 : tie.Need-returns-5

@@ -344,7 +344,7 @@ uint32_t sg_filter(const sg_state *state, uint32_t component, uint32_t ctb, cons
  *   component   0 luma, 1 Cb, 2 Cr; a number without a component is refused, however large it is
  *   y, cb, cr   the filtered planes, sizes.samples[0], [1], [2] samples
  *   marks       sizes.marks bytes
- *   finished    filled in: rows, and rows * sizes.width[component] samples
+ *   finished    filled in: rows, and rows * sizes.width[component] samples; a refusal leaves it as it was
  *
  * Refused, in this order:
  *   SG_DESCRIPTION        the description breaks a rule

@@ -4,8 +4,10 @@
 //! same call on its own world. After each call the answer, the state, and every byte of every buffer lent must be the
 //! same, and every guard untouched. Pictures of every size class, format, depth and switches are brought to their end
 //! in random order, and must end as the second program filters the whole picture at once. Among those calls, and on
-//! damaged copies of what is lent, is bad input of every kind; each refusal of each call must be seen often enough,
-//! which the tables printed at the end show.
+//! damaged copies of what is lent, is bad input of every kind: numbers at the borders of what is right, numbers whose
+//! low bits are right, and any numbers at all. Each refusal of each call must be seen often enough, and so must reads
+//! of more bins than 16 bits count, which the tables printed at the end show. Beside the random runs every value of
+//! every byte that is judged is tried in its place, and a sample above the depth at every place.
 //!
 //! A seed names at least a thousand calls, whatever the number of threads. From the environment:
 //!
@@ -25,6 +27,8 @@
 
 #[path = "beside/archive.rs"]
 mod archive;
+#[path = "beside/bytes.rs"]
+mod bytes;
 #[path = "beside/call.rs"]
 mod call;
 #[path = "beside/damage.rs"]
@@ -131,6 +135,7 @@ fn every_call_is_as_the_second_program_says() {
         let rarest = tally.rarest();
         assert!(rarest.is_some_and(|(_, _, times)| times >= OFTEN), "too rare: {rarest:?}");
         assert!(tally.every_picture(), "some class or kind of picture is missing");
+        assert!(tally.long >= OFTEN, "reads of many bins are too rare: {}", tally.long);
     }
 }
 
@@ -138,6 +143,14 @@ fn every_call_is_as_the_second_program_says() {
 fn a_sample_above_the_depth_is_seen_at_every_place() {
     let tally = told(places::every_place(Watch { aloud: false, ..watch() }));
     assert_eq!([tally.for_last_reason(call::DELIVER), tally.for_last_reason(call::FILTER)], places::expected());
+}
+
+#[test]
+fn every_value_of_every_byte_is_judged() {
+    let tally = told(bytes::every_byte(Watch { aloud: false, ..watch() }));
+    println!("every value of every byte: {} calls", tally.calls);
+    assert_eq!([1, 2, 3, 4, 5].map(|call| tally.accepted(call)), bytes::expected());
+    assert_eq!(tally.for_last_reason(call::OPEN), bytes::sound_descriptions());
 }
 
 #[test]

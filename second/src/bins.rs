@@ -7,12 +7,14 @@
 
 use crate::picture::Picture;
 use crate::sets::{ComponentSet, CtuSet};
+use std::sync::LazyLock;
 
 /// The first `count` bins of the bytes, from the most significant bit of the first.
 pub fn unpack(bytes: &[u8], count: usize) -> String {
     let used = &bytes[..count.div_ceil(8)];
-    let all: String = used.iter().map(|byte| format!("{byte:08b}")).collect();
-    all[..count].to_string()
+    let mut all: String = used.iter().map(|byte| WORDS.bytes[usize::from(*byte)].0.as_str()).collect();
+    all.truncate(count);
+    all
 }
 
 /// The bytes of these bins; unused low bits of the last are 0.
@@ -51,6 +53,37 @@ pub fn sign_book(magnitude: u8) -> Book<i8> {
     if magnitude == 0 { vec![("".into(), 1)] } else { vec![("0".into(), 1), ("1".into(), -1)] }
 }
 
+/// All books, made once.
+struct Words {
+    /// A byte as eight bins.
+    bytes: Book<u8>,
+    flag: Book<u8>,
+    kind: Book<u8>,
+    /// By M, from 0 up to the largest there is.
+    magnitude: Vec<Book<u8>>,
+    no_sign: Book<i8>,
+    sign: Book<i8>,
+    position: Book<u8>,
+    class: Book<u8>,
+}
+
+static WORDS: LazyLock<Words> = LazyLock::new(|| Words {
+    bytes: (0..=u8::MAX).map(|byte| (format!("{byte:08b}"), byte)).collect(),
+    flag: fixed_book(1),
+    kind: type_book(),
+    magnitude: (0..=31).map(magnitude_book).collect(),
+    no_sign: sign_book(0),
+    sign: sign_book(1),
+    position: fixed_book(5),
+    class: fixed_book(2),
+});
+
+impl Words {
+    fn signs(&self, magnitude: u8) -> &Book<i8> {
+        if magnitude == 0 { &self.no_sign } else { &self.sign }
+    }
+}
+
 fn word<V: PartialEq>(book: &Book<V>, value: V) -> &str {
     let entry = book.iter().find(|(_, meant)| *meant == value);
     entry.map_or_else(|| unreachable!("a set within the rules has a word for every value"), |(word, _)| word)
@@ -66,17 +99,17 @@ fn take<'a, V: Copy>(book: &Book<V>, bins: &'a str) -> Option<(V, &'a str)> {
 /// The bins of one component within the rules; `shared` where type and class are Cb's already.
 fn component_words(largest: u8, set: &ComponentSet, shared: bool) -> String {
     let magnitude = |offset: &i8| magnitude_word(offset.unsigned_abs(), largest);
-    let sign = |offset: &i8| word(&sign_book(offset.unsigned_abs()), if *offset < 0 { -1 } else { 1 }).to_string();
+    let sign = |offset: &i8| word(WORDS.signs(offset.unsigned_abs()), if *offset < 0 { -1 } else { 1 }).to_string();
     let own = |text: String| if shared { String::new() } else { text };
-    let said_type = own(word(&type_book(), set.type_index()).to_string());
+    let said_type = own(word(&WORDS.kind, set.type_index()).to_string());
     let magnitudes: String = set.offsets().iter().map(magnitude).collect();
     match set {
         ComponentSet::Off => said_type,
         ComponentSet::Band { position, offsets } => {
             let signs: String = offsets.iter().map(sign).collect();
-            said_type + &magnitudes + &signs + word(&fixed_book(5), *position)
+            said_type + &magnitudes + &signs + word(&WORDS.position, *position)
         }
-        ComponentSet::Edge { class, .. } => said_type + &magnitudes + &own(word(&fixed_book(2), *class).to_string()),
+        ComponentSet::Edge { class, .. } => said_type + &magnitudes + &own(word(&WORDS.class, *class).to_string()),
     }
 }
 
@@ -168,7 +201,7 @@ fn take_flag(sent: bool, bins: &str) -> Option<(bool, &str)> {
     if !sent {
         return Some((false, bins));
     }
-    take(&fixed_book(1), bins).map(|(flag, rest)| (flag == 1, rest))
+    take(&WORDS.flag, bins).map(|(flag, rest)| (flag == 1, rest))
 }
 
 /// One component; `cb` is given where type and class are taken from it.
@@ -183,7 +216,7 @@ fn take_component<'a>(
     }
     let (type_index, bins) = match cb {
         Some(cb) => (cb.type_index(), bins),
-        None => take(&type_book(), bins)?,
+        None => take(&WORDS.kind, bins)?,
     };
     if type_index == 0 {
         return Some((ComponentSet::Off, bins));
@@ -194,7 +227,7 @@ fn take_component<'a>(
     }
     let (class, bins) = match cb {
         Some(ComponentSet::Edge { class, .. }) => (class, bins),
-        _ => take(&fixed_book(2), bins)?,
+        _ => take(&WORDS.class, bins)?,
     };
     let [a, b, c, d] = magnitudes.map(|magnitude| magnitude as i8);
     let offsets = [a, b, -c, -d];
@@ -202,10 +235,10 @@ fn take_component<'a>(
 }
 
 fn take_magnitudes(largest: u8, mut bins: &str) -> Option<([u8; 4], &str)> {
-    let book = magnitude_book(largest);
+    let book = &WORDS.magnitude[usize::from(largest)];
     let mut magnitudes = [0; 4];
     for magnitude in &mut magnitudes {
-        (*magnitude, bins) = take(&book, bins)?;
+        (*magnitude, bins) = take(book, bins)?;
     }
     Some((magnitudes, bins))
 }
@@ -215,10 +248,10 @@ fn take_band(magnitudes: [u8; 4], mut bins: &str) -> Option<(ComponentSet, &str)
     let mut offsets = [0; 4];
     for (offset, magnitude) in offsets.iter_mut().zip(magnitudes) {
         let sign;
-        (sign, bins) = take(&sign_book(magnitude), bins)?;
+        (sign, bins) = take(WORDS.signs(magnitude), bins)?;
         *offset = sign * magnitude as i8;
     }
-    let (position, bins) = take(&fixed_book(5), bins)?;
+    let (position, bins) = take(&WORDS.position, bins)?;
     Some((ComponentSet::Band { position, offsets }, bins))
 }
 

@@ -7,7 +7,9 @@
 //! - samples ([`filter`]): every sample of the picture from H.265's own formulas, over `i64`;
 //! - bins ([`bins`]): strings of '0' and '1'; a reader that strips code words, a writer that makes every form and keeps
 //!   the shortest;
-//! - refusals ([`reasons`]): a list of number and predicate in document 01's order; the first that holds is the answer.
+//! - refusals ([`reasons`]): one flat table of document 01's lines; all of a call's are asked, and the first that holds
+//!   is the answer;
+//! - stored sets ([`table`]): dictionaries of what each byte may be, made of all that bins can say.
 //!
 //! [`stage`] has the six calls, [`world`] drives them on one set of lent buffers, [`vectors`] and [`replay`] put real
 //! pictures through them, [`random`], [`generate`] and [`runs`] make pictures, sets, samples and calls for long runs,
@@ -33,4 +35,4 @@ pub use filter::filter_picture;
 pub use picture::{Picture, State};
 pub use reasons::Refusal;
 pub use sets::{ComponentSet, CtuSet};
-pub use world::{Answer, Call, Value, World, apply};
+pub use world::{Answer, Call, Kind, Value, World, apply};

@@ -44,6 +44,13 @@ impl Block {
         (self.right - self.left) * (self.bottom - self.top)
     }
 
+    /// Whether some sample of one is a sample of the other, or lies beside it, above it, below it or across a corner.
+    pub fn touches(&self, other: &Block) -> bool {
+        let across = self.left <= other.right && other.left <= self.right;
+        let down = self.top <= other.bottom && other.top <= self.bottom;
+        across && down
+    }
+
     /// Its places (x, y), row after row.
     pub fn places(self) -> impl Iterator<Item = (usize, usize)> {
         (self.top..self.bottom).flat_map(move |y| (self.left..self.right).map(move |x| (x, y)))
@@ -154,11 +161,25 @@ impl Picture {
         ctu.checked_sub(self.columns())
     }
 
-    /// The CTB itself and its neighbours, up to eight.
+    /// All CTBs of a component in raster order: its plane cut every CTB side, across and down, from the upper left
+    /// corner on.
+    pub fn ctbs(&self, component: usize) -> impl Iterator<Item = Block> + use<> {
+        let side = self.ctb_side(component);
+        let (width, height) = (self.plane_width(component), self.plane_height(component));
+        let cut = move |left: usize, top: usize| Block {
+            left,
+            top,
+            right: (left + side).min(width),
+            bottom: (top + side).min(height),
+        };
+        (0..height).step_by(side).flat_map(move |top| (0..width).step_by(side).map(move |left| cut(left, top)))
+    }
+
+    /// The CTB itself and its neighbours, up to eight: of all CTBs of the picture those that touch it.
     pub fn ctb_and_neighbours(&self, ctb: usize) -> Vec<usize> {
-        let (column, row) = (ctb % self.columns(), ctb / self.columns());
-        let near = |at: usize, count: usize| at.saturating_sub(1)..(at + 2).min(count);
-        near(row, self.rows()).flat_map(|r| near(column, self.columns()).map(move |c| r * self.columns() + c)).collect()
+        let own = self.block(0, ctb);
+        let all = self.ctbs(0).enumerate();
+        all.filter(|(_, other)| own.touches(other)).map(|(number, _)| number).collect()
     }
 
     /// The largest sample, 2^depth - 1.
@@ -179,5 +200,33 @@ impl Picture {
     /// With both switches off a CTU has no bins.
     pub fn has_bins(&self) -> bool {
         self.luma || self.chroma
+    }
+}
+
+#[cfg(test)]
+mod tests {
+    use super::*;
+
+    /// Three columns and two rows, the last of each cut short to half and to 8 samples.
+    const SIX: Picture = Picture { width: 40, height: 24, ctb: 16, format: 1, depth: 8, luma: true, chroma: true };
+
+    #[test]
+    fn the_planes_are_cut_into_the_blocks() {
+        for component in 0..3 {
+            let blocks: Vec<Block> = (0..6).map(|ctb| SIX.block(component, ctb)).collect();
+            assert_eq!(SIX.ctbs(component).collect::<Vec<_>>(), blocks);
+            assert_eq!(blocks.iter().map(Block::samples).sum::<usize>(), SIX.plane_samples(component));
+        }
+    }
+
+    #[test]
+    fn neighbours_touch() {
+        assert_eq!(SIX.ctb_and_neighbours(0), [0, 1, 3, 4]);
+        assert_eq!(SIX.ctb_and_neighbours(4), [0, 1, 2, 3, 4, 5]);
+        assert_eq!(SIX.ctb_and_neighbours(5), [1, 2, 4, 5]);
+        let nine = Picture { width: 48, height: 72, ctb: 16, ..SIX };
+        assert_eq!(nine.ctb_and_neighbours(4), [0, 1, 2, 3, 4, 5, 6, 7, 8]);
+        assert_eq!(nine.ctb_and_neighbours(8), [4, 5, 7, 8, 10, 11]);
+        assert_eq!(Picture { width: 8, height: 8, ..SIX }.ctb_and_neighbours(0), [0]);
     }
 }

@@ -1,14 +1,15 @@
 //! The six calls of document 01.
 //!
-//! Method: each call asks its list of [`reasons`] first; only where none holds does it touch what it is lent. The state
+//! Method: each call asks all of its [`reasons`] first; only where none holds does it touch what it is lent. The state
 //! comes by value and goes back by value; refused or not, no call but open, read and write changes it.
 
 use crate::bins;
 use crate::filter::{Plane, filtered_sample};
 use crate::picture::State;
-use crate::reasons::{self, Refusal, first_that_holds};
+use crate::reasons::{self, Refusal, Seen, refusal};
 use crate::sets::{ComponentSet, CtuSet};
 use crate::table;
+use crate::world::Kind;
 
 /// Marks: a CTB delivered, a CTB filtered.
 const DELIVERED: u8 = 1;
@@ -19,7 +20,7 @@ pub type Outcome<T> = (Result<T, Refusal>, State);
 
 /// Sets the marks to 0 and the next CTU to 0. Of the state only the description is read.
 pub fn open(state: State, marks: &mut [u8]) -> Outcome<()> {
-    if let Some(refusal) = first_that_holds(&reasons::open(state.picture, marks)) {
+    if let Some(refusal) = refusal(Kind::Open, &Seen { marks, ..Seen::of_state(state) }) {
         return (Err(refusal), state);
     }
     marks.fill(0);
@@ -28,10 +29,11 @@ pub fn open(state: State, marks: &mut [u8]) -> Outcome<()> {
 
 /// Reads the next CTU's set from the first `count` bins and stores it.
 pub fn read(state: State, bins: &[u8], count: usize, table: &mut [u8]) -> Outcome<CtuSet> {
-    if let Some(refusal) = first_that_holds(&reasons::read(state, bins, count, table)) {
+    let seen = Seen { bins, count, table, ..Seen::of_state(state) };
+    if let Some(refusal) = refusal(Kind::Read, &seen) {
         return (Err(refusal), state);
     }
-    match reasons::set_read(state, bins, count, table) {
+    match reasons::set_read(&seen) {
         Some(set) => (Ok(set), append(state, &set, table)),
         None => unreachable!("bins without a meaning are refused"),
     }
@@ -39,10 +41,11 @@ pub fn read(state: State, bins: &[u8], count: usize, table: &mut [u8]) -> Outcom
 
 /// Writes the next CTU's set as bins, answers their number and stores the set.
 pub fn write(state: State, set: CtuSet, out: &mut [u8], table: &mut [u8]) -> Outcome<usize> {
-    if let Some(refusal) = first_that_holds(&reasons::write(state, &set, out, table)) {
+    let seen = Seen { set, room: out.len(), table, ..Seen::of_state(state) };
+    if let Some(refusal) = refusal(Kind::Write, &seen) {
         return (Err(refusal), state);
     }
-    match reasons::written(state, &set, table) {
+    match reasons::written(&seen) {
         Some(bins) => {
             let bytes = bins::pack(&bins);
             out[..bytes.len()].copy_from_slice(&bytes);
@@ -67,8 +70,9 @@ pub fn deliver(
     deblocked: [&mut [u16]; 3],
     marks: &mut [u8],
 ) -> Outcome<()> {
-    let lengths = deblocked.each_ref().map(|plane| plane.len());
-    if let Some(refusal) = first_that_holds(&reasons::deliver(state, component, ctb, samples, lengths, marks)) {
+    let planes = deblocked.each_ref().map(|plane| &**plane);
+    let seen = Seen { component, ctb, samples, deblocked: planes, marks, ..Seen::of_state(state) };
+    if let Some(refusal) = refusal(Kind::Deliver, &seen) {
         return (Err(refusal), state);
     }
     let (of, at) = (usize::from(component), ctb as usize);
@@ -90,12 +94,11 @@ pub fn filter(
     marks: &mut [u8],
     table: &[u8],
 ) -> Outcome<()> {
-    let lengths = filtered.each_ref().map(|plane| plane.len());
-    let reasons = reasons::filter(state, component, ctb, deblocked, lengths, marks, table);
-    if let Some(refusal) = first_that_holds(&reasons) {
+    let planes = filtered.each_ref().map(|plane| &**plane);
+    let seen = Seen { component, ctb, deblocked, filtered: planes, marks, table, ..Seen::of_state(state) };
+    if let Some(refusal) = refusal(Kind::Filter, &seen) {
         return (Err(refusal), state);
     }
-    drop(reasons);
     let (of, at) = (usize::from(component), ctb as usize);
     let width = state.picture.plane_width(of);
     let plane = Plane { samples: deblocked[of], width };
@@ -116,8 +119,7 @@ fn own_set(state: State, table: &[u8], component: usize, ctb: usize) -> Componen
 
 /// The companion of [`finished_part`]: how many sample rows are finished. The state is the caller's and stays so.
 pub fn finished_rows(state: State, component: u8, filtered: [&[u16]; 3], marks: &[u8]) -> Result<usize, Refusal> {
-    let lengths = filtered.map(<[u16]>::len);
-    if let Some(refusal) = first_that_holds(&reasons::finished_rows(state, component, lengths, marks)) {
+    if let Some(refusal) = refusal(Kind::FinishedRows, &Seen { component, filtered, marks, ..Seen::of_state(state) }) {
         return Err(refusal);
     }
     let picture = state.picture;

@@ -10,7 +10,7 @@ use crate::stage;
 use crate::table;
 
 /// The buffers lent by the caller.
-#[derive(Clone, Debug, PartialEq, Eq)]
+#[derive(Clone, Debug, Default, PartialEq, Eq)]
 pub struct World {
     pub deblocked: [Vec<u16>; 3],
     pub filtered: [Vec<u16>; 3],
@@ -42,6 +42,32 @@ pub enum Call {
     Deliver { component: u8, ctb: u32, samples: Vec<u16> },
     Filter { component: u8, ctb: u32 },
     FinishedRows { component: u8 },
+}
+
+/// The six calls.
+#[derive(Clone, Copy, Debug, PartialEq, Eq, PartialOrd, Ord)]
+pub enum Kind {
+    Open,
+    Read,
+    Write,
+    Deliver,
+    Filter,
+    FinishedRows,
+}
+
+impl Kind {
+    pub const ALL: [Kind; 6] = [Kind::Open, Kind::Read, Kind::Write, Kind::Deliver, Kind::Filter, Kind::FinishedRows];
+
+    pub fn of(call: &Call) -> Kind {
+        match call {
+            Call::Open => Kind::Open,
+            Call::Read { .. } => Kind::Read,
+            Call::Write { .. } => Kind::Write,
+            Call::Deliver { .. } => Kind::Deliver,
+            Call::Filter { .. } => Kind::Filter,
+            Call::FinishedRows { .. } => Kind::FinishedRows,
+        }
+    }
 }
 
 /// What an accepted call answers.

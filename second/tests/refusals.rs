@@ -6,7 +6,8 @@
 mod common;
 
 use common::{MONOCHROME, NINE, band, edge, state};
-use second::{Call, ComponentSet, CtuSet, Picture, Refusal, State, Value, World, apply, table};
+use second::reasons::{ROWS, Seen, asked};
+use second::{Call, ComponentSet, CtuSet, Kind, Picture, Refusal, State, Value, World, apply, table};
 use std::collections::BTreeSet;
 
 #[derive(Clone)]
@@ -350,6 +351,47 @@ fn both_switches_off() {
     world.table[3 * table::ENTRY_BYTES] = 1;
     assert_eq!(answer(&mut world, 4, write(CtuSet::OFF, &[])), Err(Refusal(14)));
     assert_eq!(answer(&mut world, 4, read(&[], 0)), Ok(Value::Set(CtuSet::OFF)));
+}
+
+/// The rows are the paper's orders, and each says the sentence of its number or a part of it.
+#[test]
+fn the_rows_are_the_papers() {
+    let orders: [(Kind, &[u8]); 6] = [
+        (Kind::Open, &[1, 2]),
+        (Kind::Read, &[1, 2, 14, 7, 4, 5, 6, 14]),
+        (Kind::Write, &[1, 2, 14, 7, 14, 12, 13]),
+        (Kind::Deliver, &[1, 2, 14, 3, 2, 14, 9, 8]),
+        (Kind::Filter, &[1, 2, 14, 3, 14, 11, 10, 14, 14]),
+        (Kind::FinishedRows, &[1, 2, 14, 3, 14]),
+    ];
+    for (call, order) in orders {
+        let numbers: Vec<u8> = ROWS.iter().filter(|row| row.call == call).map(|row| row.number).collect();
+        assert_eq!(numbers, order);
+    }
+    for row in &ROWS {
+        let said = row.says.split(':').next().unwrap_or_default();
+        assert!(Refusal(row.number).to_string().contains(said), "{}: {}", row.number, row.says);
+    }
+}
+
+/// No row panics, whatever is lent: all of them are asked of broken descriptions, empty buffers and large numbers.
+#[test]
+fn every_row_has_an_answer() {
+    let sides = [0, 8, 12, 24, 8192, u32::MAX];
+    let pictures = sides.iter().flat_map(|&width| sides.map(|height| Picture { width, height, ..NINE }));
+    let pictures = pictures.chain([0, 7, 17, 255].map(|depth| Picture { depth, ..NINE }));
+    let pictures = pictures.chain([0, 64, u32::MAX].map(|ctb| Picture { ctb, ..NINE }));
+    let numbers = [0, 1, 9, u32::MAX];
+    for (picture, number) in pictures.flat_map(|picture| numbers.map(|number| (picture, number))) {
+        let seen = Seen {
+            count: number as usize,
+            component: number as u8,
+            ctb: number,
+            ..Seen::of_state(state(picture, number))
+        };
+        let rows: usize = Kind::ALL.iter().map(|&call| asked(call, &seen).len()).sum();
+        assert_eq!(rows, ROWS.len());
+    }
 }
 
 #[test]

@@ -2,10 +2,10 @@
 //!
 //! They are written anew by `second stored replay FILE > crates/replay/FILE`, for the files `stdin` and `stdout`.
 
-use second::reasons::{self, Reason};
-use second::stored_runs::drawn::{DEPTHS, Kind, commands};
+use second::reasons::{self, Seen};
+use second::stored_runs::drawn::{DEPTHS, commands};
 use second::stored_runs::{Command, DELIVERY, Machine, Made, ROOM, WHOLE, bytes};
-use second::{Answer, Call, Picture, Value};
+use second::{Answer, Call, Kind, Picture, Value};
 use std::collections::BTreeMap;
 
 /// Every reason is met at least so often in a call that has it.
@@ -31,34 +31,19 @@ fn the_stored_files_are_written_by_this_program() {
     assert_eq!(bytes("replay", "args"), None);
 }
 
-/// The reasons of a call, as document 01 lists them.
-fn reasons(made: &Made) -> Vec<Reason<'_>> {
-    let Made { state, lent, call, .. } = made;
-    let (state, marks, table) = (*state, &lent.marks, &lent.table);
-    let deblocked = lent.deblocked.each_ref().map(Vec::as_slice);
-    let (lengths, filtered) = (lent.deblocked.each_ref().map(Vec::len), lent.filtered.each_ref().map(Vec::len));
-    match call {
-        Call::Open => reasons::open(state.picture, marks),
-        Call::Read { bins, count } => reasons::read(state, bins, *count, table),
-        Call::Write { set, out } => reasons::write(state, set, out, table),
-        Call::Deliver { component, ctb, samples } => reasons::deliver(state, *component, *ctb, samples, lengths, marks),
-        Call::Filter { component, ctb } => reasons::filter(state, *component, *ctb, deblocked, filtered, marks, table),
-        Call::FinishedRows { component } => reasons::finished_rows(state, *component, filtered, marks),
-    }
-}
-
 /// Every line of every call's list of reasons is the first that holds often enough, and so is none.
 #[test]
 fn every_reason_is_met() {
     let mut met: BTreeMap<(Kind, usize), (u8, usize)> = BTreeMap::new();
     let calls = calls();
     for made in &calls {
-        let (kind, reasons) = (Kind::of(&made.call), reasons(made));
-        for (line, (number, _)) in reasons.iter().enumerate() {
-            met.entry((kind, line)).or_insert((*number, 0));
+        let kind = Kind::of(&made.call);
+        let reasons = reasons::asked(kind, &Seen::of(&made.lent, made.state, &made.call));
+        for (line, (row, _)) in reasons.iter().enumerate() {
+            met.entry((kind, line)).or_insert((row.number, 0));
         }
-        let line = reasons.iter().position(|(_, holds)| holds()).unwrap_or(reasons.len());
-        let number = reasons.get(line).map_or(0, |(number, _)| *number);
+        let line = reasons.iter().position(|(_, holds)| *holds).unwrap_or(reasons.len());
+        let number = reasons.get(line).map_or(0, |(row, _)| row.number);
         assert_eq!(made.answer.answer.err().map_or(0, |refusal| refusal.0), number);
         met.entry((kind, line)).or_insert((number, 0)).1 += 1;
     }

@@ -1,130 +1,57 @@
--- What read_form's and read_ctu's contracts say: each lets in one answer, and that is the set that the bins mean, too early where they
--- end too early, and bins remain where some do.
-use mathlib.Core.Path.{_≡_, refl, sym, ap, _∙_}
+-- The contracts let in one answer only: what is taken at a cursor, as the values have a code; and the form of a CTU's bins, as neighbours
+-- with unlike sets tell the merges from each other and from the full form.
+use mathlib.Core.Path.{_≡_, refl, sym, ap, _∙_, subst}
 use mathlib.Core.Bool.{Bool, true, false}
-use mathlib.Core.List.{List, [], _∷_}
+use mathlib.Core.List.{List}
 use mathlib.Core.Option.{Option, some, none}
 use Prim.Native.Nat.{ℕ}
 use native.Mathlib.Omega.{arith}
 use lib.IntN.{pos}
+use lib.ListN.{length}
 use Rattle.standard.specs.declared.Offsets.the-variants.{Off, Band}
 use Rattle.standard.specs.declared.CtuSet.{CtuSet}
 use Rattle.standard.specs.declared.Switches.{Switches}
 use Rattle.standard.specs.Sets.{allOff}
 use Rattle.standard.specs.Bins.{typeIdx}
 use Rattle.standard.specs.Means.{Means, Early, Remain}
-use Rattle.standard.proofs.Codes.{Got, got, short, impossible}
-use Rattle.standard.proofs.Reader.{readCtu, meant-is-got, got-is-meant, early-is-short, short-is-early, remain-is-got, got-is-remain}
+use Rattle.standard.proofs.Codes.{got, impossible, never, Code, Spelled}
+use Rattle.standard.proofs.Reader.{one-meaning, meant-not-early, meant-not-remain, early-not-remain}
+use Rattle.bins.specs.declared.Cursor.{Cursor}
 use Rattle.bins.specs.declared.Form.{Form}
-use Rattle.bins.specs.declared.Form.the-variants.{Left, Up, Full}
-use Rattle.bins.specs.declared.Form.the-variants as form
-use Rattle.bins.specs.declared.Answer.{Answer}
-use Rattle.bins.specs.declared.Answer.the-variants.{Set, TooEarly, BinsRemain}
-use Rattle.bins.specs.Forms.{answerOf, isThere, copied, resolved, ReadAs}
-use Rattle.bins.proofs.Resolving.{same-answer}
+use Rattle.bins.specs.declared.Form.the-variants.{Left, Up, Full, TooEarly, BinsRemain}
+use Rattle.bins.specs.Takes.{Within, binsAt, Taken, took, cut, Takes}
+use Rattle.bins.specs.Forms.{isThere, Says, ReadAs}
+use Rattle.bins.proofs.ByReader.{seen, reads}
+use Rattle.bins.proofs.Places.{left-over}
+use Rattle.bins.proofs.Steps.{taken-within}
 
--- ---- read_ctu: the answer, by what the bins mean
+-- ---- what is taken at a cursor
 
-pub read-ctu-unique : (s : Switches) (left up : Option CtuSet) (bins : List Bool) {a b : Answer}
-    → a ≡ answerOf (readCtu s left up bins) → b ≡ answerOf (readCtu s left up bins) → a ≡ b
-read-ctu-unique s left up bins e f = e ∙ sym f
+module _ {A : Type 0} {P : A → Type 0} {f : A → List Bool} (code : Code (Spelled P f)) {bytes : List ℕ} {c : Cursor} (w : Within bytes c) where
+  same-seen : {r t : Taken A} → Takes P f bytes c r → Takes P f bytes c t → seen bytes r ≡ seen bytes t
+  same-seen h k = reads code h .says ∙ sym (reads code k .says)
 
-set-of : (g : Got CtuSet) {q : CtuSet} → Set q ≡ answerOf g → g ≡ got q []
-set-of (got p []) {q} e = cc
-set-of (got q (b ∷ l)) e = impossible cc
-set-of short e = impossible cc
+  pub takes-once : (r t : Taken A) → Takes P f bytes c r → Takes P f bytes c t → r ≡ t
+  takes-once (took a m) (took b n) h k =
+      let e : got a (binsAt bytes m) ≡ got b (binsAt bytes n) = same-seen h k in
+      let value : a ≡ b = cc in
+      let beyond : binsAt bytes m ≡ binsAt bytes n = cc in
+      let count : m .count ≡ n .count = h .spells .3 ∙ sym (k .spells .3) in
+      let at : m .at ≡ n .at =
+      omega (arith, left-over (taken-within w h), left-over (taken-within w k), ap length beyond, count, h .spells .2, k .spells .2) in
+      λ i. took (value i) (record { at = at i; count = count i })
+  takes-once (took a m) cut h k = never (sym (same-seen h k))
+  takes-once cut (took b n) h k = never (same-seen h k)
+  takes-once cut cut h k = refl
 
-remains-of : (g : Got CtuSet) → BinsRemain ≡ answerOf g → (q : CtuSet) × (b : Bool) × (more : List Bool) × (g ≡ got q (b ∷ more))
-remains-of (got q []) e = impossible cc
-remains-of (got q (b ∷ l)) e = (q, b, l, refl)
-remains-of short e = impossible cc
-
-short-of : (g : Got CtuSet) → TooEarly ≡ answerOf g → g ≡ short
-short-of (got q []) e = impossible cc
-short-of (got q (b ∷ l)) e = impossible cc
-short-of short e = refl
-
-module _ (s : Switches) (left up : Option CtuSet) (bins : List Bool) where
-  pub set-means : {q : CtuSet} → Set q ≡ answerOf (readCtu s left up bins) → Means s left up q bins
-  set-means e = got-is-meant s left up bins (set-of (readCtu s left up bins) e)
-
-  pub means-set : {q : CtuSet} → Means s left up q bins → Set q ≡ answerOf (readCtu s left up bins)
-  means-set m = ap answerOf (sym (meant-is-got m))
-
-  pub too-early-early : TooEarly ≡ answerOf (readCtu s left up bins) → Early s left up bins
-  too-early-early e = short-is-early s left up bins (short-of (readCtu s left up bins) e)
-
-  pub early-too-early : Early s left up bins → TooEarly ≡ answerOf (readCtu s left up bins)
-  early-too-early e = ap answerOf (sym (early-is-short bins e))
-
-  pub bins-remain-remain : BinsRemain ≡ answerOf (readCtu s left up bins) → Remain s left up bins
-  bins-remain-remain e = got-is-remain s left up bins (remains-of (readCtu s left up bins) e .3)
-
-  pub remain-bins-remain : Remain s left up bins → BinsRemain ≡ answerOf (readCtu s left up bins)
-  remain-bins-remain r = ap answerOf (sym (remain-is-got r .3))
-
--- ---- read_form: the form, by what the bins mean once the neighbours' sets are known
-
-copied-a-set : {X : Type 0} (o : Option CtuSet) {a : Answer} → copied o ≡ some a → ((q : CtuSet) → a ≡ Set q → X) → X
-copied-a-set none e k = impossible cc
-copied-a-set (some q) e k = k q (cc)
-
-resolved-early : (f : Form) (left up : Option CtuSet) → resolved f left up ≡ some TooEarly → f ≡ form.TooEarly
-resolved-early Left left up e = copied-a-set left e (λ q d. impossible cc)
-resolved-early Up left up e = copied-a-set up e (λ q d. impossible cc)
-resolved-early (Full q) left up e = impossible cc
-resolved-early form.TooEarly left up e = refl
-resolved-early form.BinsRemain left up e = impossible cc
-
-resolved-remain : (f : Form) (left up : Option CtuSet) → resolved f left up ≡ some BinsRemain → f ≡ form.BinsRemain
-resolved-remain Left left up e = copied-a-set left e (λ q d. impossible cc)
-resolved-remain Up left up e = copied-a-set up e (λ q d. impossible cc)
-resolved-remain (Full q) left up e = impossible cc
-resolved-remain form.TooEarly left up e = impossible cc
-resolved-remain form.BinsRemain left up e = refl
-
-module _ (s : Switches) {has-left has-up : Bool} (bins : List Bool) (f : Form) (h : ReadAs s has-left has-up bins f)
-    (left up : Option CtuSet) (hl : isThere left ≡ has-left) (hu : isThere up ≡ has-up) where
-  pub form-means : {q : CtuSet} → resolved f left up ≡ some (Set q) → Means s left up q bins
-  form-means e = set-means s left up bins (same-answer (sym e ∙ h left up hl hu))
-
-  pub means-form : {q : CtuSet} → Means s left up q bins → resolved f left up ≡ some (Set q)
-  means-form m = h left up hl hu ∙ ap some (sym (means-set s left up bins m))
-
-  pub form-early : f ≡ form.TooEarly → Early s left up bins
-  form-early e = too-early-early s left up bins (same-answer (sym (ap (λ (f : Form). resolved f left up) e) ∙ h left up hl hu))
-
-  pub early-form : Early s left up bins → f ≡ form.TooEarly
-  early-form m = resolved-early f left up (h left up hl hu ∙ ap some (sym (early-too-early s left up bins m)))
-
-  pub form-remain : f ≡ form.BinsRemain → Remain s left up bins
-  form-remain e = bins-remain-remain s left up bins (same-answer (sym (ap (λ (f : Form). resolved f left up) e) ∙ h left up hl hu))
-
-  pub remain-form : Remain s left up bins → f ≡ form.BinsRemain
-  remain-form m = resolved-remain f left up (h left up hl hu ∙ ap some (sym (remain-bins-remain s left up bins m)))
-
--- ---- one form only: two neighbours with unlike sets tell the merges from each other and from the full form
+-- ---- the form of a CTU's bins
 
 -- a set that is not all off
 abbrev other : CtuSet
 other = record { luma = Band 0 (pos 0) (pos 0) (pos 0) (pos 0); cb = Off; cr = Off }
 
-abbrev rank : Answer → ℕ
-rank (Set q) = typeIdx (q .luma)
-rank TooEarly = 0
-rank BinsRemain = 0
-
--- answers of unlike kinds
-abbrev kind : Answer → ℕ
-kind (Set q) = 0
-kind TooEarly = 1
-kind BinsRemain = 2
-
-clash : {X : Type 0} {a b : Answer} → a ≡ b → ¬ (kind a ≡ kind b) → X
-clash e n = absurd (n (ap kind e))
-
-apart : {X : Type 0} → Set allOff ≡ Set other → X
-apart e = impossible (ap rank e)
+apart : {X : Type 0} → allOff ≡ other → X
+apart e = impossible (ap (λ (q : CtuSet). typeIdx (q .luma)) e)
 
 -- a neighbour with this set, where there is one
 abbrev set-at : Bool → CtuSet → Option CtuSet
@@ -135,58 +62,65 @@ there : (b : Bool) (q : CtuSet) → isThere (set-at b q) ≡ b
 there true q = refl
 there false q = refl
 
--- the answers that a form gives with the left set all off and the upper one not, and the other way round
-abbrev Gives : Form → Answer → Answer → Type 0
-Gives Left x y = (x ≡ Set allOff) × (y ≡ Set other)
-Gives Up x y = (x ≡ Set other) × (y ≡ Set allOff)
-Gives (Full q) x y = (x ≡ Set q) × (y ≡ Set q)
-Gives form.TooEarly x y = (x ≡ TooEarly) × (y ≡ TooEarly)
-Gives form.BinsRemain x y = (x ≡ BinsRemain) × (y ≡ BinsRemain)
+the-set : (b : Bool) (q : CtuSet) {p : CtuSet} → set-at b q ≡ some p → p ≡ q
+the-set true q e = cc
+the-set false q e = impossible cc
 
-gives : (has-left has-up : Bool) (f : Form) {x y : Answer} → resolved f (set-at has-left allOff) (set-at has-up other) ≡ some x
-    → resolved f (set-at has-left other) (set-at has-up allOff) ≡ some y → Gives f x y
-gives true has-up Left d e = (same-answer (sym d), same-answer (sym e))
-gives false has-up Left d e = impossible cc
-gives has-left true Up d e = (same-answer (sym d), same-answer (sym e))
-gives has-left false Up d e = impossible cc
-gives has-left has-up (Full q) d e = (same-answer (sym d), same-answer (sym e))
-gives has-left has-up form.TooEarly d e = (same-answer (sym d), same-answer (sym e))
-gives has-left has-up form.BinsRemain d e = (same-answer (sym d), same-answer (sym e))
+module _ (s : Switches) (has-left has-up : Bool) (bins : List Bool) where
+  -- with these sets of the left and the upper neighbour
+  abbrev With : CtuSet → CtuSet → CtuSet → Type 0
+  With p q meant = Means s (set-at has-left p) (set-at has-up q) meant bins
 
-one-form : (x y : Answer) (f g : Form) → Gives f x y → Gives g x y → f ≡ g
-one-form x y Left Left d e = refl
-one-form x y Left Up d e = apart (sym (d .0) ∙ e .0)
-one-form x y Left (Full q) d e = apart (sym (d .0) ∙ e .0 ∙ sym (e .1) ∙ d .1)
-one-form x y Left form.TooEarly d e = clash (sym (d .0) ∙ e .0) (λ n. omega (arith, n))
-one-form x y Left form.BinsRemain d e = clash (sym (d .0) ∙ e .0) (λ n. omega (arith, n))
-one-form x y Up Left d e = apart (sym (e .0) ∙ d .0)
-one-form x y Up Up d e = refl
-one-form x y Up (Full q) d e = apart (sym (d .1) ∙ e .1 ∙ sym (e .0) ∙ d .0)
-one-form x y Up form.TooEarly d e = clash (sym (d .0) ∙ e .0) (λ n. omega (arith, n))
-one-form x y Up form.BinsRemain d e = clash (sym (d .0) ∙ e .0) (λ n. omega (arith, n))
-one-form x y (Full q) Left d e = apart (sym (e .0) ∙ d .0 ∙ sym (d .1) ∙ e .1)
-one-form x y (Full q) Up d e = apart (sym (e .1) ∙ d .1 ∙ sym (d .0) ∙ e .0)
-one-form x y (Full q) (Full p) d e = let same : Set q ≡ Set p = sym (d .0) ∙ e .0 in cc
-one-form x y (Full q) form.TooEarly d e = clash (sym (d .0) ∙ e .0) (λ n. omega (arith, n))
-one-form x y (Full q) form.BinsRemain d e = clash (sym (d .0) ∙ e .0) (λ n. omega (arith, n))
-one-form x y form.TooEarly Left d e = clash (sym (d .0) ∙ e .0) (λ n. omega (arith, n))
-one-form x y form.TooEarly Up d e = clash (sym (d .0) ∙ e .0) (λ n. omega (arith, n))
-one-form x y form.TooEarly (Full q) d e = clash (sym (d .0) ∙ e .0) (λ n. omega (arith, n))
-one-form x y form.TooEarly form.TooEarly d e = refl
-one-form x y form.TooEarly form.BinsRemain d e = clash (sym (d .0) ∙ e .0) (λ n. omega (arith, n))
-one-form x y form.BinsRemain Left d e = clash (sym (d .0) ∙ e .0) (λ n. omega (arith, n))
-one-form x y form.BinsRemain Up d e = clash (sym (d .0) ∙ e .0) (λ n. omega (arith, n))
-one-form x y form.BinsRemain (Full q) d e = clash (sym (d .0) ∙ e .0) (λ n. omega (arith, n))
-one-form x y form.BinsRemain form.TooEarly d e = clash (sym (d .0) ∙ e .0) (λ n. omega (arith, n))
-one-form x y form.BinsRemain form.BinsRemain d e = refl
+  -- what a form says with the left set all off and the upper one not, and the other way round
+  abbrev Told : Form → Type 0
+  Told Left = With allOff other allOff × With other allOff other
+  Told Up = With allOff other other × With other allOff allOff
+  Told (Full q) = With allOff other q × With other allOff q
+  Told TooEarly = Early s (set-at has-left allOff) (set-at has-up other) bins
+  Told BinsRemain = Remain s (set-at has-left allOff) (set-at has-up other) bins
 
-pub read-form-unique : (s : Switches) (has-left has-up : Bool) (bins : List Bool) (f g : Form) → ReadAs s has-left has-up bins f
-    → ReadAs s has-left has-up bins g → f ≡ g
-read-form-unique s has-left has-up bins f g h k = one-form _ _ f g (told f h) (told g k)
-  where
-    told : (f : Form) → ReadAs s has-left has-up bins f
-        → Gives f (answerOf (readCtu s (set-at has-left allOff) (set-at has-up other) bins)) (answerOf (readCtu s (set-at has-left other) (set-at has-up allOff) bins))
-    told f h =
-        gives has-left has-up f
-        (h (set-at has-left allOff) (set-at has-up other) (there has-left allOff) (there has-up other))
-        (h (set-at has-left other) (set-at has-up allOff) (there has-left other) (there has-up allOff))
+  said-with : (f : Form) → ReadAs s has-left has-up bins f → (p q : CtuSet) → Says s (set-at has-left p) (set-at has-up q) bins f
+  said-with f h p q = h (set-at has-left p) (set-at has-up q) (there has-left p) (there has-up q)
+
+  left-with : ReadAs s has-left has-up bins Left → (p q : CtuSet) → With p q p
+  left-with h p q = let t = said-with Left h p q in subst (With p q) (the-set has-left p (t .1)) (t .2)
+
+  up-with : ReadAs s has-left has-up bins Up → (p q : CtuSet) → With p q q
+  up-with h p q = let t = said-with Up h p q in subst (With p q) (the-set has-up q (t .1)) (t .2)
+
+  told : (f : Form) → ReadAs s has-left has-up bins f → Told f
+  told Left h = (left-with h allOff other, left-with h other allOff)
+  told Up h = (up-with h allOff other, up-with h other allOff)
+  told (Full q) h = (said-with (Full q) h allOff other, said-with (Full q) h other allOff)
+  told TooEarly h = said-with TooEarly h allOff other
+  told BinsRemain h = said-with BinsRemain h allOff other
+
+  one-form : (f g : Form) → Told f → Told g → f ≡ g
+  one-form Left Left d e = refl
+  one-form Left Up d e = apart (one-meaning (d .0) (e .0))
+  one-form Left (Full q) d e = apart (one-meaning (d .0) (e .0) ∙ one-meaning (e .1) (d .1))
+  one-form Left TooEarly d e = absurd (meant-not-early (d .0) e)
+  one-form Left BinsRemain d e = absurd (meant-not-remain (d .0) e)
+  one-form Up Left d e = apart (one-meaning (e .0) (d .0))
+  one-form Up Up d e = refl
+  one-form Up (Full q) d e = apart (one-meaning (d .1) (e .1) ∙ one-meaning (e .0) (d .0))
+  one-form Up TooEarly d e = absurd (meant-not-early (d .0) e)
+  one-form Up BinsRemain d e = absurd (meant-not-remain (d .0) e)
+  one-form (Full q) Left d e = apart (one-meaning (e .0) (d .0) ∙ one-meaning (d .1) (e .1))
+  one-form (Full q) Up d e = apart (one-meaning (e .1) (d .1) ∙ one-meaning (d .0) (e .0))
+  one-form (Full q) (Full p) d e = ap Full (one-meaning (d .0) (e .0))
+  one-form (Full q) TooEarly d e = absurd (meant-not-early (d .0) e)
+  one-form (Full q) BinsRemain d e = absurd (meant-not-remain (d .0) e)
+  one-form TooEarly Left d e = absurd (meant-not-early (e .0) d)
+  one-form TooEarly Up d e = absurd (meant-not-early (e .0) d)
+  one-form TooEarly (Full q) d e = absurd (meant-not-early (e .0) d)
+  one-form TooEarly TooEarly d e = refl
+  one-form TooEarly BinsRemain d e = absurd (early-not-remain d e)
+  one-form BinsRemain Left d e = absurd (meant-not-remain (e .0) d)
+  one-form BinsRemain Up d e = absurd (meant-not-remain (e .0) d)
+  one-form BinsRemain (Full q) d e = absurd (meant-not-remain (e .0) d)
+  one-form BinsRemain TooEarly d e = absurd (early-not-remain e d)
+  one-form BinsRemain BinsRemain d e = refl
+
+  pub read-form-unique : (f g : Form) → ReadAs s has-left has-up bins f → ReadAs s has-left has-up bins g → f ≡ g
+  read-form-unique f g h k = one-form f g (told f h) (told g k)

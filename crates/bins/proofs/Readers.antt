@@ -5,9 +5,9 @@ use mathlib.Core.List.{List, [], _∷_}
 use Prim.Native.Nat.{ℕ, zero, suc, _≤_, _<_}
 use native.Mathlib.Nat.{le-of-suc-le-suc, not-suc-le-zero}
 use lib.Dec.{eqb}
-use lib.IntN.{ℤ, pos, negℤ}
+use lib.IntN.{pos, negℤ}
 use lib.ListN.{length, drop}
-use Rattle.standard.specs.declared.Offsets.the-variants.{Off, Band, Edge}
+use Rattle.standard.specs.declared.Offsets.the-variants.{Off}
 use Rattle.standard.specs.declared.Switches.{Switches}
 use Rattle.standard.specs.Sets.{most}
 use Rattle.standard.specs.Bins.{number}
@@ -15,12 +15,11 @@ use Rattle.standard.proofs.Codes.{Got, got, short, then, Code, Spelled, pure, r
 use Rattle.standard.proofs.Elements.{withHigh, fixedCode, after-bit, truncatedCode, signCode, Four, magnitudesCode, signsCode}
 use Rattle.standard.proofs.Components.{bandOf, bandCode, edgeSigned, edgeSignedCode, edgeOf, edgeCode, restCode, componentCode, crCode, chromaCode}
 use Rattle.standard.proofs.Ctu.{lumaCode, twoCode, ctuSet, fullCode}
-use Rattle.bins.specs.Forms.{edgeOfRead}
 use Rattle.bins.proofs.Ones.{ones}
 
 -- ---- codes in turn
 
-pub then-as-is : {A : Type 0} (g : Got A) → then g (λ a l. got a l) ≡ g
+then-as-is : {A : Type 0} (g : Got A) → then g (λ a l. got a l) ≡ g
 then-as-is (got a l) = refl
 then-as-is short = refl
 
@@ -224,42 +223,14 @@ rest-edge m zero l h k = absurd (h refl)
 rest-edge m (suc zero) l h k = absurd (k refl)
 rest-edge m (suc (suc t)) l h k = refl
 
--- ---- Cr, after a Cb
-
-pub cr-off : (m : ℕ) (l : List Bool) → crCode m Off .read l ≡ got Off l
-unfolding crCode said-of as-code pure
-cr-off m l = refl
-
-pub cr-band : (m p : ℕ) (v1 v2 v3 v4 : ℤ) (l : List Bool) → crCode m (Band p v1 v2 v3 v4) .read l ≡ bandCode m .read l
-unfolding crCode said-of as-code
-cr-band m p v1 v2 v3 v4 l = then-as-is (bandCode m .read l)
-
-pub cr-edge : (m k : ℕ) (v1 v2 v3 v4 : ℤ) (l : List Bool) → crCode m (Edge k v1 v2 v3 v4) .read l ≡ edgeOfRead m k l
-unfolding crCode said-of as-code edgeOfRead
-cr-edge m k v1 v2 v3 v4 l = refl
+-- ---- Cb and Cr
 
 pub chroma-read : (m n : ℕ) (l : List Bool) → chromaCode m n .read l
     ≡ then (componentCode m .read l) (λ cb l. then (crCode n cb .read l) (λ cr l. got (cb, cr) l))
 unfolding chromaCode said-of as-code
 chroma-read m n l = in-turn-then (componentCode m) (crCode n) l (λ t l. got t l)
 
--- ---- by the switches
-
-pub luma-off : (m : ℕ) (l : List Bool) → lumaCode false m .read l ≡ got Off l
-unfolding lumaCode pure
-luma-off m l = refl
-
-pub luma-on : (m : ℕ) (l : List Bool) → lumaCode true m .read l ≡ componentCode m .read l
-unfolding lumaCode
-luma-on m l = refl
-
-pub chroma-off : (m n : ℕ) (l : List Bool) → twoCode false m n .read l ≡ got (Off, Off) l
-unfolding twoCode said-of as-code pure
-chroma-off m n l = refl
-
-pub chroma-on : (m n : ℕ) (l : List Bool) → twoCode true m n .read l ≡ chromaCode m n .read l
-unfolding twoCode
-chroma-on m n l = refl
+-- ---- the full form
 
 pub full-read : (s : Switches) (l : List Bool) → fullCode s .read l
     ≡ then (lumaCode (s .luma) (most s 0) .read l) (λ y l. then (twoCode (s .chroma) (most s 1) (most s 2) .read l) (λ t l. got (ctuSet (y, t)) l))

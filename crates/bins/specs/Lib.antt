@@ -1,3 +1,4 @@
-pub mod Reads
+pub mod Takes
+pub mod Values
 pub mod Views
 pub mod Forms

@@ -4,17 +4,17 @@ use mathlib.Core.Bool.{Bool}
 use lib.IntN.{ℤ}
 use Rattle.standard.specs.declared.Offsets.{Offsets}
 use Rattle.standard.specs.declared.CtuSet.{CtuSet}
-use Rattle.standard.proofs.Elements as elements
-use Rattle.bins.specs.Reads.{Taken, took, cut}
-use Rattle.bins.specs.declared.Four.{Four}
+use Rattle.bins.specs.Takes.{Taken, took, cut}
+use Rattle.bins.specs.Values.{Quad}
+use Rattle.bins.specs.declared.Magnitudes.{Magnitudes}
 use Rattle.bins.specs.declared.Signed.{Signed}
 use Rattle.bins.specs.declared.Form.{Form}
 use Rattle.bins.specs.declared.FlagTaken.{FlagTaken}
 use Rattle.bins.specs.declared.FlagTaken.the-variants as flag
 use Rattle.bins.specs.declared.NumberTaken.{NumberTaken}
 use Rattle.bins.specs.declared.NumberTaken.the-variants as number
-use Rattle.bins.specs.declared.FourTaken.{FourTaken}
-use Rattle.bins.specs.declared.FourTaken.the-variants as fours
+use Rattle.bins.specs.declared.MagnitudesTaken.{MagnitudesTaken}
+use Rattle.bins.specs.declared.MagnitudesTaken.the-variants as magnitudes
 use Rattle.bins.specs.declared.OffsetTaken.{OffsetTaken}
 use Rattle.bins.specs.declared.OffsetTaken.the-variants as offset
 use Rattle.bins.specs.declared.SignedTaken.{SignedTaken}
@@ -36,21 +36,21 @@ abbrev pub numberTaken : NumberTaken → Taken ℕ
 numberTaken (number.Value v c) = took v c
 numberTaken number.Short = cut
 
-abbrev pub four : Four → elements.Four ℕ
+abbrev pub four : Magnitudes → Quad ℕ
 four f = (f .v1, (f .v2, (f .v3, f .v4)))
 
-abbrev pub fourTaken : FourTaken → Taken (elements.Four ℕ)
-fourTaken (fours.Value f c) = took (four f) c
-fourTaken fours.Short = cut
+abbrev pub magnitudesTaken : MagnitudesTaken → Taken (Quad ℕ)
+magnitudesTaken (magnitudes.Value f c) = took (four f) c
+magnitudesTaken magnitudes.Short = cut
 
 abbrev pub offsetTaken : OffsetTaken → Taken ℤ
 offsetTaken (offset.Value o c) = took o c
 offsetTaken offset.Short = cut
 
-abbrev pub signed : Signed → elements.Four ℤ
+abbrev pub signed : Signed → Quad ℤ
 signed s = (s .o1, (s .o2, (s .o3, s .o4)))
 
-abbrev pub signedTaken : SignedTaken → Taken (elements.Four ℤ)
+abbrev pub signedTaken : SignedTaken → Taken (Quad ℤ)
 signedTaken (signeds.Value s c) = took (signed s) c
 signedTaken signeds.Short = cut
 

@@ -1,25 +1,24 @@
 // Reads a CTU's parameters from packed bins: bits from the most significant bit of the first byte on, of which the
-// first `count` are bins. What is read is what the standard's reader says of those bins: no more and no less.
+// first `count` are bins. What is taken at a cursor is a value that the rules allow, by the bins that spell it, and no
+// bin more; or the bins end within those of a value.
 use standard::CtuSet;
-use standard::Near;
 use standard::Offsets;
 use standard::Switches;
 ghost use mathlib.Core.Path.{_≡_};
 ghost use mathlib.Core.Bool.{cond, true};
-ghost use mathlib.Core.Option.{some};
-ghost use Prim.Native.Nat.{_*_, _≤_, _<_};
+ghost use mathlib.Core.List.{_++_};
+ghost use Prim.Native.Nat.{ℕ, _*_, _^_, _≤_, _<_};
 ghost use lib.IntN.{pos, negℤ};
 ghost use lib.ListN.{length, drop, getD};
+ghost use Rattle.standard.specs.Sets.{Fits, Valid};
+ghost use Rattle.standard.specs.Bins.{truncated, fixedLength, signBins, typeBins, rest, restOfCr, full, bitsOf, binsOf, number};
 ghost use Rattle.standard.specs.Means.{anyOn};
-ghost use Rattle.standard.proofs.Reader.{setOf, readCtu};
-ghost use Rattle.standard.specs.Bins.{bitsOf, binsOf, number};
-ghost use Rattle.standard.proofs.Codes.{bit};
-ghost use Rattle.standard.proofs.Elements.{fixedCode, truncatedCode, magnitudesCode, signCode, signsCode};
-ghost use Rattle.standard.proofs.Components.{bandCode, edgeCode, edgeSignedCode, componentCode, crCode, chromaCode};
-ghost use Rattle.standard.proofs.Ctu.{lumaCode, twoCode, fullCode};
-ghost use Rattle.bins.specs.Reads.{Within, binsAt, Reads};
-ghost use Rattle.bins.specs.Views.{flagTaken, numberTaken, four, fourTaken, offsetTaken, signedTaken, componentTaken, chromaTaken, setTaken, formTaken};
-ghost use Rattle.bins.specs.Forms.{mergeRead, formRead, edgeOfRead, isThere, copied, answerOf, ReadAs};
+ghost use Rattle.bins.specs.Takes.{Within, binsAt, Takes};
+ghost use Rattle.bins.specs.Values.{AnyBin, binOf, MagnitudesFit, magnitudesBins, OfSize, OfSizes, signsBins, EdgeOffsetsFit, edgeOffsetsBins};
+ghost use Rattle.bins.specs.Values.{OfType, AfterCb, EdgeOf, CbAndCrFit, cbAndCrBins, LumaBySwitch, lumaBinsBySwitch, ChromaBySwitch, chromaBinsBySwitch};
+ghost use Rattle.bins.specs.Values.{MergeFits, mergeBins, FormFits, binsOfForm};
+ghost use Rattle.bins.specs.Views.{flagTaken, numberTaken, four, magnitudesTaken, offsetTaken, signedTaken, componentTaken, chromaTaken, setTaken, formTaken};
+ghost use Rattle.bins.specs.Forms.{ReadAs};
 
 // A place in the bins, and how many of them there are.
 struct Cursor {
@@ -39,15 +38,15 @@ enum NumberTaken {
 }
 
 // Four magnitudes, of the offsets 1 to 4.
-struct Four {
+struct Magnitudes {
     v1: u32,
     v2: u32,
     v3: u32,
     v4: u32,
 }
 
-enum FourTaken {
-    Value(Four, Cursor),
+enum MagnitudesTaken {
+    Value(Magnitudes, Cursor),
     Short,
 }
 
@@ -94,13 +93,6 @@ pub enum Form {
     Left,
     Up,
     Full(CtuSet),
-    TooEarly,
-    BinsRemain,
-}
-
-// The set that a CTU's bins mean; or what is wrong with them.
-pub enum Answer {
-    Set(CtuSet),
     TooEarly,
     BinsRemain,
 }
@@ -156,7 +148,7 @@ impl Cursor {
     fn magnitude(self, bytes: &[u8], m: u32) -> NumberTaken
         requires { ⌜ Within (now bytes) self ⌝ }
         requires { ⌜ m < 32 ⌝ }
-        ensures { λ r. ⌜ Reads (now (bytes .entry)) self (truncatedCode m .read) (numberTaken r) ⌝ }
+        ensures { λ r. ⌜ Takes (λ v. v ≤ m) (truncated m) (now (bytes .entry)) self (numberTaken r) ⌝ }
     {
         let at = self.at;
         let count = self.count;
@@ -186,7 +178,7 @@ impl Cursor {
     fn fixed(self, bytes: &[u8], width: u32) -> NumberTaken
         requires { ⌜ Within (now bytes) self ⌝ }
         requires { ⌜ (0 < width) × (width < 32) ⌝ }
-        ensures { λ r. ⌜ Reads (now (bytes .entry)) self (fixedCode width .read) (numberTaken r) ⌝ }
+        ensures { λ r. ⌜ Takes (λ v. v < 2 ^ width) (fixedLength width) (now (bytes .entry)) self (numberTaken r) ⌝ }
     {
         let at = self.at;
         let count = self.count;
@@ -205,7 +197,7 @@ impl Cursor {
 
     fn flag(self, bytes: &[u8]) -> FlagTaken
         requires { ⌜ Within (now bytes) self ⌝ }
-        ensures { λ r. ⌜ Reads (now (bytes .entry)) self (bit .read) (flagTaken r) ⌝ }
+        ensures { λ r. ⌜ Takes AnyBin binOf (now (bytes .entry)) self (flagTaken r) ⌝ }
     {
         let NumberTaken::Value(v, next) = self.fixed(bytes, 1) else {
             return FlagTaken::Short;
@@ -214,31 +206,31 @@ impl Cursor {
     }
 
     // Four magnitudes of at most m.
-    fn magnitudes(self, bytes: &[u8], m: u32) -> FourTaken
+    fn magnitudes(self, bytes: &[u8], m: u32) -> MagnitudesTaken
         requires { ⌜ Within (now bytes) self ⌝ }
         requires { ⌜ m < 32 ⌝ }
-        ensures { λ r. ⌜ Reads (now (bytes .entry)) self (magnitudesCode m .read) (fourTaken r) ⌝ }
+        ensures { λ r. ⌜ Takes (MagnitudesFit m) (magnitudesBins m) (now (bytes .entry)) self (magnitudesTaken r) ⌝ }
     {
         let NumberTaken::Value(v1, c1) = self.magnitude(bytes, m) else {
-            return FourTaken::Short;
+            return MagnitudesTaken::Short;
         };
         let NumberTaken::Value(v2, c2) = c1.magnitude(bytes, m) else {
-            return FourTaken::Short;
+            return MagnitudesTaken::Short;
         };
         let NumberTaken::Value(v3, c3) = c2.magnitude(bytes, m) else {
-            return FourTaken::Short;
+            return MagnitudesTaken::Short;
         };
         let NumberTaken::Value(v4, c4) = c3.magnitude(bytes, m) else {
-            return FourTaken::Short;
+            return MagnitudesTaken::Short;
         };
-        FourTaken::Value(Four { v1, v2, v3, v4 }, c4)
+        MagnitudesTaken::Value(Magnitudes { v1, v2, v3, v4 }, c4)
     }
 
     // The offset of magnitude v: 0 has no sign bin.
     fn sign(self, bytes: &[u8], v: u32) -> OffsetTaken
         requires { ⌜ Within (now bytes) self ⌝ }
         requires { ⌜ v < 32 ⌝ }
-        ensures { λ r. ⌜ Reads (now (bytes .entry)) self (signCode v .read) (offsetTaken r) ⌝ }
+        ensures { λ r. ⌜ Takes (OfSize v) signBins (now (bytes .entry)) self (offsetTaken r) ⌝ }
     {
         if v == 0 {
             return OffsetTaken::Value(0, self);
@@ -250,10 +242,10 @@ impl Cursor {
     }
 
     // The offsets of four magnitudes.
-    fn signs(self, bytes: &[u8], f: Four) -> SignedTaken
+    fn signs(self, bytes: &[u8], f: Magnitudes) -> SignedTaken
         requires { ⌜ Within (now bytes) self ⌝ }
         requires { ⌜ (f .v1 < 32) × (f .v2 < 32) × (f .v3 < 32) × (f .v4 < 32) ⌝ }
-        ensures { λ r. ⌜ Reads (now (bytes .entry)) self (signsCode (four f) .read) (signedTaken r) ⌝ }
+        ensures { λ r. ⌜ Takes (OfSizes (four f)) signsBins (now (bytes .entry)) self (signedTaken r) ⌝ }
     {
         let OffsetTaken::Value(o1, c1) = self.sign(bytes, f.v1) else {
             return SignedTaken::Short;
@@ -274,9 +266,9 @@ impl Cursor {
     fn band(self, bytes: &[u8], m: u32) -> ComponentTaken
         requires { ⌜ Within (now bytes) self ⌝ }
         requires { ⌜ m < 32 ⌝ }
-        ensures { λ r. ⌜ Reads (now (bytes .entry)) self (bandCode m .read) (componentTaken r) ⌝ }
+        ensures { λ r. ⌜ Takes (OfType 1 m) (rest m) (now (bytes .entry)) self (componentTaken r) ⌝ }
     {
-        let FourTaken::Value(f, c1) = self.magnitudes(bytes, m) else {
+        let MagnitudesTaken::Value(f, c1) = self.magnitudes(bytes, m) else {
             return ComponentTaken::Short;
         };
         let SignedTaken::Value(s, c2) = c1.signs(bytes, f) else {
@@ -301,9 +293,9 @@ impl Cursor {
     fn edge_offsets(self, bytes: &[u8], m: u32) -> SignedTaken
         requires { ⌜ Within (now bytes) self ⌝ }
         requires { ⌜ m < 32 ⌝ }
-        ensures { λ r. ⌜ Reads (now (bytes .entry)) self (edgeSignedCode m .read) (signedTaken r) ⌝ }
+        ensures { λ r. ⌜ Takes (EdgeOffsetsFit m) (edgeOffsetsBins m) (now (bytes .entry)) self (signedTaken r) ⌝ }
     {
-        let FourTaken::Value(f, next) = self.magnitudes(bytes, m) else {
+        let MagnitudesTaken::Value(f, next) = self.magnitudes(bytes, m) else {
             return SignedTaken::Short;
         };
         SignedTaken::Value(
@@ -321,7 +313,7 @@ impl Cursor {
     fn edge(self, bytes: &[u8], m: u32) -> ComponentTaken
         requires { ⌜ Within (now bytes) self ⌝ }
         requires { ⌜ m < 32 ⌝ }
-        ensures { λ r. ⌜ Reads (now (bytes .entry)) self (edgeCode m .read) (componentTaken r) ⌝ }
+        ensures { λ r. ⌜ Takes (OfType 2 m) (rest m) (now (bytes .entry)) self (componentTaken r) ⌝ }
     {
         let SignedTaken::Value(s, c1) = self.edge_offsets(bytes, m) else {
             return ComponentTaken::Short;
@@ -345,7 +337,7 @@ impl Cursor {
     fn component(self, bytes: &[u8], m: u32) -> ComponentTaken
         requires { ⌜ Within (now bytes) self ⌝ }
         requires { ⌜ m < 32 ⌝ }
-        ensures { λ r. ⌜ Reads (now (bytes .entry)) self (componentCode m .read) (componentTaken r) ⌝ }
+        ensures { λ r. ⌜ Takes (Fits m) (λ c. typeBins c ++ rest m c) (now (bytes .entry)) self (componentTaken r) ⌝ }
     {
         let NumberTaken::Value(t, next) = self.magnitude(bytes, 2) else {
             return ComponentTaken::Short;
@@ -362,8 +354,8 @@ impl Cursor {
     // An edge of a class that is known.
     fn edge_of(self, bytes: &[u8], m: u32, class: u8) -> ComponentTaken
         requires { ⌜ Within (now bytes) self ⌝ }
-        requires { ⌜ m < 32 ⌝ }
-        ensures { λ r. ⌜ Reads (now (bytes .entry)) self (edgeOfRead m class) (componentTaken r) ⌝ }
+        requires { ⌜ (m < 32) × (class < 4) ⌝ }
+        ensures { λ r. ⌜ Takes (EdgeOf m class) (restOfCr m) (now (bytes .entry)) self (componentTaken r) ⌝ }
     {
         let SignedTaken::Value(s, next) = self.edge_offsets(bytes, m) else {
             return ComponentTaken::Short;
@@ -383,8 +375,8 @@ impl Cursor {
     // Cr, which takes Cb's type and class, and nothing else of it.
     fn cr(self, bytes: &[u8], m: u32, cb: Offsets) -> ComponentTaken
         requires { ⌜ Within (now bytes) self ⌝ }
-        requires { ⌜ m < 32 ⌝ }
-        ensures { λ r. ⌜ Reads (now (bytes .entry)) self (crCode m cb .read) (componentTaken r) ⌝ }
+        requires { ⌜ (m < 32) × ((n : ℕ) × Fits n cb) ⌝ }
+        ensures { λ r. ⌜ Takes (AfterCb m cb) (restOfCr m) (now (bytes .entry)) self (componentTaken r) ⌝ }
     {
         match cb {
             Offsets::Off => ComponentTaken::Value(Offsets::Off, self),
@@ -397,7 +389,7 @@ impl Cursor {
     fn luma(self, bytes: &[u8], on: bool, m: u32) -> ComponentTaken
         requires { ⌜ Within (now bytes) self ⌝ }
         requires { ⌜ m < 32 ⌝ }
-        ensures { λ r. ⌜ Reads (now (bytes .entry)) self (lumaCode on m .read) (componentTaken r) ⌝ }
+        ensures { λ r. ⌜ Takes (LumaBySwitch on m) (lumaBinsBySwitch on m) (now (bytes .entry)) self (componentTaken r) ⌝ }
     {
         if on {
             self.component(bytes, m)
@@ -410,7 +402,7 @@ impl Cursor {
     fn cb_and_cr(self, bytes: &[u8], m: u32, n: u32) -> ChromaTaken
         requires { ⌜ Within (now bytes) self ⌝ }
         requires { ⌜ (m < 32) × (n < 32) ⌝ }
-        ensures { λ r. ⌜ Reads (now (bytes .entry)) self (chromaCode m n .read) (chromaTaken r) ⌝ }
+        ensures { λ r. ⌜ Takes (CbAndCrFit m n) (cbAndCrBins m n) (now (bytes .entry)) self (chromaTaken r) ⌝ }
     {
         let ComponentTaken::Value(cb, c1) = self.component(bytes, m) else {
             return ChromaTaken::Short;
@@ -425,7 +417,7 @@ impl Cursor {
     fn chroma(self, bytes: &[u8], on: bool, m: u32, n: u32) -> ChromaTaken
         requires { ⌜ Within (now bytes) self ⌝ }
         requires { ⌜ (m < 32) × (n < 32) ⌝ }
-        ensures { λ r. ⌜ Reads (now (bytes .entry)) self (twoCode on m n .read) (chromaTaken r) ⌝ }
+        ensures { λ r. ⌜ Takes (ChromaBySwitch on m n) (chromaBinsBySwitch on m n) (now (bytes .entry)) self (chromaTaken r) ⌝ }
     {
         if on {
             self.cb_and_cr(bytes, m, n)
@@ -437,7 +429,7 @@ impl Cursor {
     // The full form.
     fn full(self, bytes: &[u8], s: Switches) -> SetTaken
         requires { ⌜ Within (now bytes) self ⌝ }
-        ensures { λ r. ⌜ Reads (now (bytes .entry)) self (fullCode s .read) (setTaken r) ⌝ }
+        ensures { λ r. ⌜ Takes (Valid s) (full s) (now (bytes .entry)) self (setTaken r) ⌝ }
     {
         let ComponentTaken::Value(luma, c1) = self.luma(bytes, s.luma, geometry::most_of(s, 0))
         else {
@@ -457,7 +449,7 @@ impl Cursor {
     // Whether the merge with a neighbour is taken: no bin says so where it is not there.
     fn merge(self, bytes: &[u8], there: bool) -> FlagTaken
         requires { ⌜ Within (now bytes) self ⌝ }
-        ensures { λ r. ⌜ Reads (now (bytes .entry)) self (mergeRead there) (flagTaken r) ⌝ }
+        ensures { λ r. ⌜ Takes (MergeFits there) (mergeBins there) (now (bytes .entry)) self (flagTaken r) ⌝ }
     {
         if there {
             self.flag(bytes)
@@ -469,7 +461,7 @@ impl Cursor {
     // Merge left, else merge up, else the full form.
     fn form(self, bytes: &[u8], s: Switches, has_left: bool, has_up: bool) -> FormTaken
         requires { ⌜ Within (now bytes) self ⌝ }
-        ensures { λ r. ⌜ Reads (now (bytes .entry)) self (formRead s «has_left» «has_up») (formTaken r) ⌝ }
+        ensures { λ r. ⌜ Takes (FormFits s «has_left» «has_up») (binsOfForm s «has_left» «has_up») (now (bytes .entry)) self (formTaken r) ⌝ }
     {
         let FlagTaken::Value(left, c1) = self.merge(bytes, has_left) else {
             return FormTaken::Short;
@@ -522,39 +514,4 @@ pub fn read_form(s: Switches, has_left: bool, has_up: bool, bytes: &[u8], count:
         cb: Offsets::Off,
         cr: Offsets::Off,
     })
-}
-
-fn is_there(n: Near) -> bool
-    ensures { λ r. ⌜ r ≡ isThere (setOf n) ⌝ }
-{
-    match n {
-        Near::Nothing => false,
-        Near::Set(_) => true,
-    }
-}
-
-// The set that a merge copies.
-fn merged(n: Near) -> Answer
-    requires { ⌜ isThere (setOf n) ≡ true ⌝ }
-    ensures { λ r. ⌜ some r ≡ copied (setOf n) ⌝ }
-{
-    match n {
-        Near::Nothing => Answer::TooEarly,
-        Near::Set(q) => Answer::Set(q),
-    }
-}
-
-// The set that a CTU's bins mean.
-pub fn read_ctu(s: Switches, left: Near, up: Near, bytes: &[u8], count: usize) -> Answer
-    requires { ⌜ count ≤ 8 * length (now bytes) ⌝ }
-    ensures { λ r. ⌜ r ≡ answerOf (readCtu s (setOf left) (setOf up) (binsOf (now (bytes .entry)) count)) ⌝ }
-{
-    let form = read_form(s, is_there(left), is_there(up), bytes, count);
-    match form {
-        Form::Left => merged(left),
-        Form::Up => merged(up),
-        Form::Full(q) => Answer::Set(q),
-        Form::TooEarly => Answer::TooEarly,
-        Form::BinsRemain => Answer::BinsRemain,
-    }
 }

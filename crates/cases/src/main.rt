@@ -21,17 +21,16 @@ use records::pair;
 use records::print_word;
 use records::wide;
 use standard::CtuSet;
-use standard::Near;
 use standard::Picture;
 use standard::SET_BYTES;
 use standard::State;
 use standard::Switches;
+use writer::Beside;
 ghost use Prim.Native.Nat.{_<_};
 
-// A neighbour as the record has it: none, its set, or an entry that is no set within the rules.
+// A neighbour as the record has it: its set or none, or an entry that is no set within the rules.
 enum Neighbour {
-    Nothing,
-    Set(CtuSet),
+    Sound(Beside),
     Bad,
 }
 
@@ -79,50 +78,52 @@ fn neighbour_at(s: Switches, head: &[u8; 72], is_there: u8, k: usize) -> Neighbo
     requires { ⌜ k < 3 ⌝ }
 {
     if is_there == 0 {
-        return Neighbour::Nothing;
+        return Neighbour::Sound(Beside::Nothing);
     }
     match sets::get_set(s, head, k) {
-        sets::Found::Set(q) => Neighbour::Set(q),
+        sets::Found::Set(q) => Neighbour::Sound(Beside::Set(q)),
         sets::Found::Bad => Neighbour::Bad,
-    }
-}
-
-fn is_bad(n: Neighbour) -> bool {
-    match n {
-        Neighbour::Nothing => false,
-        Neighbour::Set(_) => false,
-        Neighbour::Bad => true,
-    }
-}
-
-fn near(n: Neighbour) -> Near {
-    match n {
-        Neighbour::Nothing => Near::Nothing,
-        Neighbour::Set(q) => Near::Set(q),
-        Neighbour::Bad => Near::Nothing,
     }
 }
 
 // ---- the answers
 
+fn is_there(n: Beside) -> bool {
+    match n {
+        Beside::Nothing => false,
+        Beside::Set(_) => true,
+    }
+}
+
+// The set that a merge copies. Bins merge only with a neighbour that is there: the other arm is never
+// reached.
+fn print_copied(n: Beside) {
+    match n {
+        Beside::Nothing => print_word(b"no neighbour"),
+        Beside::Set(q) => print_set(q),
+    }
+}
+
 // The bytes of the set, or what is wrong with the bins.
-fn read(s: Switches, left: Neighbour, up: Neighbour, bytes: &[u8], count: usize)
+fn read(s: Switches, left: Beside, up: Beside, bytes: &[u8], count: usize)
     requires { ⌜ count < 65536 ⌝ }
 {
     if (count + 7) / 8 > bytes.len() {
         print_word(b"count");
         return;
     }
-    match bins::read_ctu(s, near(left), near(up), bytes, count) {
-        bins::Answer::Set(q) => print_set(q),
-        bins::Answer::TooEarly => print_word(b"early"),
-        bins::Answer::BinsRemain => print_word(b"remain"),
+    match bins::read_form(s, is_there(left), is_there(up), bytes, count) {
+        bins::Form::Left => print_copied(left),
+        bins::Form::Up => print_copied(up),
+        bins::Form::Full(q) => print_set(q),
+        bins::Form::TooEarly => print_word(b"early"),
+        bins::Form::BinsRemain => print_word(b"remain"),
     }
 }
 
 // The number of bins, or that there is no room for them; then all bytes that were lent.
-fn write(s: Switches, left: Neighbour, up: Neighbour, q: CtuSet, room: &mut [u8]) {
-    match writer::write_set(s, near(left), near(up), q, room) {
+fn write(s: Switches, left: Beside, up: Beside, q: CtuSet, room: &mut [u8]) {
+    match writer::write_set(s, left, up, q, room) {
         writer::Wrote::Bins(n) => {
             io::print_decimal(1, n as u64);
         }
@@ -135,7 +136,7 @@ fn write(s: Switches, left: Neighbour, up: Neighbour, q: CtuSet, room: &mut [u8]
     io::write_all(1, b"\n");
 }
 
-fn write_if_a_set(s: Switches, left: Neighbour, up: Neighbour, head: &[u8; 72], room: &mut [u8]) {
+fn write_if_a_set(s: Switches, left: Beside, up: Beside, head: &[u8; 72], room: &mut [u8]) {
     match sets::get_set(s, head, 2) {
         sets::Found::Set(q) => write(s, left, up, q, room),
         sets::Found::Bad => print_word(b"set"),
@@ -143,7 +144,7 @@ fn write_if_a_set(s: Switches, left: Neighbour, up: Neighbour, head: &[u8; 72], 
 }
 
 // Reads or writes, as the record says.
-fn call(s: Switches, left: Neighbour, up: Neighbour, head: &[u8; 72], body: &mut [u8]) {
+fn call(s: Switches, left: Beside, up: Beside, head: &[u8; 72], body: &mut [u8]) {
     let count = pair(head[68], head[69]) as usize;
     let lent = wide(head[70]);
     if lent > body.len() {
@@ -164,13 +165,13 @@ fn answer(head: &[u8; 72], body: &mut [u8]) {
         return;
     }
     let s = geometry::switches_of(State { picture, next: 0 });
-    let left = neighbour_at(s, head, head[54], 0);
-    let up = neighbour_at(s, head, head[55], 1);
-    if is_bad(left) || is_bad(up) {
-        print_word(b"neighbour");
-        return;
+    match neighbour_at(s, head, head[54], 0) {
+        Neighbour::Bad => print_word(b"neighbour"),
+        Neighbour::Sound(left) => match neighbour_at(s, head, head[55], 1) {
+            Neighbour::Bad => print_word(b"neighbour"),
+            Neighbour::Sound(up) => call(s, left, up, head, body),
+        },
     }
-    call(s, left, up, head, body);
 }
 
 // ---- record after record

@@ -46,7 +46,7 @@ fn samples_answer(state: State, component: u8, ctb: u32, samples: &[u16], marks:
     if !samples_fit(p, component, ctb, samples) {
         return Answer::Refused(Refusal::Length);
     }
-    let m = lent::mark_of(p, component, ctb, marks);
+    let m = marks::mark_of(p, component, ctb, marks);
     if m > 2 {
         return Answer::Refused(Refusal::Stored);
     }

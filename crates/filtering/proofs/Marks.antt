@@ -1,7 +1,6 @@
--- Marks of a rectangle in the grid of CTBs are those of the CTBs that are waited for; and marks outside 0 to 2, or 1 to 2, said as the reasons say it.
-use mathlib.Core.Logic.{inl, inr, ⊎-elim}
+-- Marks of a rectangle in the grid of CTBs are those of the CTBs that are waited for.
 use mathlib.Core.List.{List}
-use mathlib.Core.Path.{_≡_, sym, ap, _∙_, subst}
+use mathlib.Core.Path.{sym, ap, _∙_, subst}
 use Prim.Native.Nat.{ℕ, _+_, _*_, _/_, _%_, _<_}
 use native.Mathlib.Omega.{arith}
 use lib.ListN.{getD}
@@ -16,7 +15,8 @@ use Rattle.geometry.specs.Geometry.{around}
 use Rattle.geometry.proofs.Marks.{mark-from}
 use Rattle.geometry.proofs.Neighbours.{adjacent-inside, inside-adjacent, around-ends}
 use Rattle.planes.specs.Places.{Placed}
-use Rattle.filtering.specs.Filtering.{Outside, MarkOutside, WaitedOutside}
+use Rattle.marks.specs.Marks.{Outside}
+use Rattle.filtering.specs.Filtering.{MarkOutside, WaitedOutside}
 
 module _ {p : Picture} (rules : Rules p) (set : Offsets) {k : ℕ} (there : k < ctuCount p) where
   pub around-placed : Placed (columns p) (rows p) (around p k)
@@ -51,17 +51,3 @@ module _ {p : Picture} (rules : Rules p) (set : Offsets) {k : ℕ} (there : k < 
     adjacent-inside rules k (waits-adjacent p set k j a),
     subst (λ (n : ℕ). Outside low high (getD marks n 0)) (sym (mark-from p i j) ∙ ap (λ (n : ℕ). markPlace p i 0 + n) (sym (place-of (columns p) j))) o,
   )
-
--- ---- a mark outside 0 to 2, and one outside 1 to 2 that is at most 2
-
-pub above-two : {m : ℕ} → Outside 0 2 m → 2 < m
-above-two o = ⊎-elim (λ l. omega arith) (λ l. l) o
-
-pub is-above : {m : ℕ} → 2 < m → Outside 0 2 m
-is-above l = inr l
-
-pub zero-mark : {m : ℕ} → Outside 1 2 m → ¬ (2 < m) → m ≡ 0
-zero-mark o n = ⊎-elim (λ l. omega arith) (λ l. absurd (n l)) o
-
-pub is-below : {m : ℕ} → m ≡ 0 → Outside 1 2 m
-is-below e = inl (omega arith)

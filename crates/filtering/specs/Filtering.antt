@@ -1,7 +1,6 @@
 -- What the tests of this crate look for, how its answer is put together, and what the filter of the block takes.
 use mathlib.Core.Path.{_≡_}
 use mathlib.Core.List.{List}
-use mathlib.Core.Logic.{_⊎_}
 use Prim.Native.Nat.{ℕ, _+_, _*_, _^_, _<_}
 use lib.ListN.{getD}
 use Rattle.standard.specs.declared.Picture.{Picture}
@@ -13,6 +12,7 @@ use Rattle.standard.specs.Samples.{at, Waits, Scans}
 use Rattle.standard.specs.Table.{offsetsAt}
 use Rattle.standard.specs.Refusals.{Reason, First, Clear, numberOf}
 use Rattle.standard.specs.Reasons.{markOf, TooLarge}
+use Rattle.marks.specs.Marks.{Outside}
 use Rattle.samples.specs.Blocks.{Legal}
 use Rattle.filtering.specs.declared.Ready.{Ready}
 use Rattle.filtering.specs.declared.Ready.the-variants as ready
@@ -26,13 +26,6 @@ pub record Named (p : Picture) (i k : ℕ) : Type 0 where
   pub ctb : k < ctuCount p
 
 -- ---- marks
-
-abbrev pub Outside : ℕ → ℕ → ℕ → Type 0
-Outside low high m = (m < low) ⊎ (high < m)
-
--- one of n marks from a place on
-abbrev pub RowOutside : ℕ → ℕ → List ℕ → ℕ → ℕ → Type 0
-RowOutside low high marks from n = (j : ℕ) × (j < n) × Outside low high (getD marks (from + j) 0)
 
 -- one of a rectangle of marks, w to a row from a place on
 abbrev pub MarkOutside : ℕ → ℕ → List ℕ → ℕ → ℕ → Rectangle → Type 0

@@ -27,7 +27,7 @@ ghost use Rattle.standard.specs.Contracts.{Judged, FilterEnsures};
 ghost use Rattle.planes.specs.Places.{Placed};
 ghost use Rattle.samples.specs.Around.{Agrees};
 ghost use Rattle.samples.specs.Blocks.{Legal};
-ghost use Rattle.filtering.specs.Filtering.{Outside, RowOutside, MarkOutside, WaitedOutside, ScannedTooLarge, Readied, Named, Deep};
+ghost use Rattle.filtering.specs.Filtering.{MarkOutside, WaitedOutside, ScannedTooLarge, Readied, Named, Deep};
 
 // The set to filter with, or why not.
 enum Ready {
@@ -37,31 +37,7 @@ enum Ready {
 
 // ---- marks, and whether the set is in
 
-fn is_outside(mark: u8, low: u8, high: u8) -> bool
-    ensures { λ r. ⌜ Tells (Outside low high mark) r ⌝ }
-{
-    if mark < low {
-        return true;
-    }
-    high < mark
-}
-
-// Whether one of n marks, from a place on, is below low or above high.
-fn row_outside(marks: &[u8], from: usize, n: usize, low: u8, high: u8) -> bool
-    requires { ⌜ from + n ≤ length (now marks) ⌝ }
-    ensures { λ r. ⌜ Tells (RowOutside low high (now (marks .entry)) from n) r ⌝ }
-{
-    let mut j: usize = 0;
-    while j < n {
-        if is_outside(marks[from + j], low, high) {
-            return true;
-        }
-        j += 1;
-    }
-    false
-}
-
-// And whether one of a rectangle of them is, of w by h from a place on.
+// Whether one of a rectangle of marks, of w by h from a place on, is below low or above high.
 fn mark_outside(
     marks: &[u8],
     from: usize,
@@ -78,7 +54,7 @@ fn mark_outside(
     let mut y = r.y0;
     while y < r.y1 {
         let i = planes::index(w, h, r.x0, y);
-        if row_outside(marks, from + i, n, low, high) {
+        if marks::some_outside(marks, from + i, n, low, high) {
             return true;
         }
         y += 1;
@@ -136,7 +112,7 @@ fn component_of(q: CtuSet, component: u8) -> Offsets
 }
 
 // Whether a deblocked sample that the filter of the CTB by this set looks at is above the depth.
-fn sample_too_large(state: State, component: u8, set: Offsets, ctb: u32, plane: &[u16]) -> bool
+fn scanned_too_large(state: State, component: u8, set: Offsets, ctb: u32, plane: &[u16]) -> bool
     requires { ⌜ Rules (state .picture) × (ctb < ctuCount (state .picture)) ⌝ }
     requires { ⌜ length (now plane) ≡ planeWidth (state .picture) component * planeHeight (state .picture) component ⌝ }
     ensures { λ r. ⌜ Tells (ScannedTooLarge state component set ctb (now (plane .entry))) r ⌝ }
@@ -165,9 +141,9 @@ fn some_too_large(
     ensures { λ r. ⌜ Tells (ScannedTooLarge state component set ctb (planeOf (record { y = now (y .entry); cb = now (cb .entry); cr = now (cr .entry) }) component)) r ⌝ }
 {
     match component {
-        0 => sample_too_large(state, component, set, ctb, y),
-        1 => sample_too_large(state, component, set, ctb, cb),
-        _ => sample_too_large(state, component, set, ctb, cr),
+        0 => scanned_too_large(state, component, set, ctb, y),
+        1 => scanned_too_large(state, component, set, ctb, cb),
+        _ => scanned_too_large(state, component, set, ctb, cr),
     }
 }
 
@@ -184,7 +160,7 @@ fn marks_answer(state: State, component: u8, ctb: u32, marks: &[u8], table: &[u8
     if waited_outside(p, component, set, ctb, marks, 0, 2) {
         return Answer::Refused(Refusal::Stored);
     }
-    if lent::mark_of(p, component, ctb, marks) == 2 {
+    if marks::mark_of(p, component, ctb, marks) == 2 {
         return Answer::Refused(Refusal::FilteredBefore);
     }
     if not_ready(state, component, set, ctb, marks) {

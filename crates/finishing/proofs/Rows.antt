@@ -1,24 +1,25 @@
 -- Rows of marks: one more row without an unfiltered CTB, and that one number of finished rows is right.
 use mathlib.Core.Path.{_≡_, sym, ap, _∙_, subst}
 use mathlib.Core.List.{List}
-use mathlib.Core.Logic.{⊎-elim, Dec·not-not}
+use mathlib.Core.Logic.{⊎-elim}
 use Prim.Native.Nat.{ℕ, _+_, _*_, _≤_, _<_, min}
-use native.Mathlib.Decide.{ℕ-discrete, decLt}
+use native.Mathlib.Decide.{decLt}
 use native.Mathlib.Omega.{arith}
 use lib.ListN.{getD}
 use Rattle.standard.specs.declared.State.{State}
 use Rattle.standard.specs.Picture.{rows, ctbHeight, planeHeight}
 use Rattle.standard.specs.Calls.{FinishedRows}
-use Rattle.finishing.specs.Marks.{SomeUnfiltered}
+use Rattle.marks.specs.Marks.{SomeOutside}
+use Rattle.marks.proofs.Marks.{is-two}
 
 -- ---- a row
 
-all-filtered : (marks : List ℕ) (from n : ℕ) → ¬ SomeUnfiltered marks from n → (c : ℕ) → c < n → getD marks (from + c) 0 ≡ 2
-all-filtered marks from n none c l = Dec·not-not (ℕ-discrete (getD marks (from + c) 0) 2) .0 (λ f. none (c, l, f))
+all-filtered : (marks : List ℕ) (from n : ℕ) → ¬ SomeOutside 2 2 marks from n → (c : ℕ) → c < n → getD marks (from + c) 0 ≡ 2
+all-filtered marks from n none c l = is-two (λ o. none (c, l, o))
 
 -- rows before r, and row r
 pub one-more-row : (marks : List ℕ) (from n r : ℕ) → ((j c : ℕ) → j < r → c < n → getD marks (from + j * n + c) 0 ≡ 2)
-    → ¬ SomeUnfiltered marks (from + r * n) n → (j c : ℕ) → j < r + 1 → c < n → getD marks (from + j * n + c) 0 ≡ 2
+    → ¬ SomeOutside 2 2 marks (from + r * n) n → (j c : ℕ) → j < r + 1 → c < n → getD marks (from + j * n + c) 0 ≡ 2
 one-more-row marks from n r before none j c l m = of (decLt j r)
   where
     of : Dec (j < r) → getD marks (from + j * n + c) 0 ≡ 2

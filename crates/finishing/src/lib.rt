@@ -1,16 +1,16 @@
 // Finished rows: the leading part of the caller's own filtered plane, and the companion that answers how many rows it has.
 ghost use mathlib.Core.Path.{_≡_};
-ghost use Prim.Native.Nat.{_+_, _*_, _≤_, min};
-ghost use lib.ListN.{length};
-ghost use Rattle.standard.specs.Picture.{Rules};
-ghost use Rattle.standard.specs.Refusals.{Tells};
-ghost use Rattle.standard.specs.Reasons.{MarksFit, marksReasons, rowsReasons};
+ghost use Prim.Native.Nat.{_+_, _*_, _≤_, _<_, min};
+ghost use lib.ListN.{length, take};
+ghost use Rattle.standard.specs.Picture.{Rules, components, planeWidth, planeHeight};
+ghost use Rattle.standard.specs.Reasons.{PlanesFit, planeOf, MarksFit, marksReasons, rowsReasons};
 ghost use Rattle.standard.specs.Contracts.{Judged, RowsEnsures, PartEnsures};
-ghost use Rattle.finishing.specs.Marks.{SomeAboveTwo, SomeUnfiltered, RowsFiltered};
+ghost use Rattle.finishing.specs.Marks.{RowsFiltered};
 use lent::Bytes;
 use lent::Lent;
 use lent::Planes;
 use standard::Answer;
+use standard::Picture;
 use standard::Refusal;
 use standard::RowsAnswer;
 use standard::RowsOutcome;
@@ -18,23 +18,8 @@ use standard::State;
 
 // ---- the reasons
 
-// Whether a mark above 2 is among the n from `from` on.
-fn some_above_two(marks: &[u8], from: usize, n: usize) -> bool
-    requires { ⌜ from + n ≤ length (now marks) ⌝ }
-    ensures { λ r. ⌜ Tells (SomeAboveTwo (now (marks .entry)) from n) r ⌝ }
-{
-    let mut k: usize = 0;
-    while k < n {
-        if marks[from + k] > 2 {
-            return true;
-        }
-        k += 1;
-    }
-    false
-}
-
 // The component, and its marks.
-fn marks_answer(state: State, component: u8, marks: &[u8]) -> Answer
+fn component_answer(state: State, component: u8, marks: &[u8]) -> Answer
     requires { ⌜ Rules (state .picture) × MarksFit (state .picture) (now marks) ⌝ }
     ensures { λ r. ⌜ Judged (marksReasons state component (now (marks .entry))) r ⌝ }
 {
@@ -43,7 +28,7 @@ fn marks_answer(state: State, component: u8, marks: &[u8]) -> Answer
         return Answer::Refused(Refusal::NoSuchBlock);
     }
     let from = geometry::mark_place(p, component, 0);
-    if some_above_two(marks, from, geometry::ctu_count(p)) {
+    if marks::some_outside(marks, from, geometry::ctu_count(p), 0, 2) {
         return Answer::Refused(Refusal::Stored);
     }
     Answer::Done
@@ -67,26 +52,11 @@ fn rows_answer(
     };
     match lent::call_answer(state, lent) {
         Answer::Refused(r) => Answer::Refused(r),
-        Answer::Done => marks_answer(state, component, marks),
+        Answer::Done => component_answer(state, component, marks),
     }
 }
 
 // ---- the companion
-
-// Whether a mark that is not 2 is among the n from `from` on.
-fn some_unfiltered(marks: &[u8], from: usize, n: usize) -> bool
-    requires { ⌜ from + n ≤ length (now marks) ⌝ }
-    ensures { λ r. ⌜ Tells (SomeUnfiltered (now (marks .entry)) from n) r ⌝ }
-{
-    let mut c: usize = 0;
-    while c < n {
-        if marks[from + c] != 2 {
-            return true;
-        }
-        c += 1;
-    }
-    false
-}
 
 // The CTB rows, n CTBs each, before the first that has an unfiltered one.
 fn ctb_rows_filtered(marks: &[u8], from: usize, n: usize, rows: usize) -> usize
@@ -95,7 +65,7 @@ fn ctb_rows_filtered(marks: &[u8], from: usize, n: usize, rows: usize) -> usize
 {
     let mut r: usize = 0;
     while r < rows {
-        if some_unfiltered(marks, from + r * n, n) {
+        if marks::some_outside(marks, from + r * n, n, 2, 2) {
             return r;
         }
         r += 1;
@@ -147,6 +117,27 @@ pub fn finished_count(
 
 // ---- the rows
 
+// The first n rows of the component's plane.
+fn leading_part<'a>(
+    p: Picture,
+    component: u8,
+    y: &'a [u16],
+    cb: &'a [u16],
+    cr: &'a [u16],
+    n: usize,
+) -> &'a [u16]
+    requires { ⌜ Rules p × PlanesFit p (record { y = now y; cb = now cb; cr = now cr }) × (component < components p) × (n ≤ planeHeight p component) ⌝ }
+    ensures { λ r. ⌜ now r ≡ take (n * planeWidth p component) (planeOf (record { y = now (y .entry); cb = now (cb .entry); cr = now (cr .entry) }) component) ⌝ }
+{
+    let w = geometry::plane_width(p, component);
+    let h = geometry::plane_height(p, component);
+    match component {
+        0 => planes::leading_rows(y, w, h, n),
+        1 => planes::leading_rows(cb, w, h, n),
+        _ => planes::leading_rows(cr, w, h, n),
+    }
+}
+
 // Those rows of the component's plane, and none where the companion refuses.
 pub fn finished_rows<'a>(
     state: State,
@@ -162,15 +153,6 @@ pub fn finished_rows<'a>(
     let a = o.answer;
     match a {
         RowsAnswer::Refused(_) => &y[..0],
-        RowsAnswer::Rows(n) => {
-            let p = state.picture;
-            let w = geometry::plane_width(p, component);
-            let h = geometry::plane_height(p, component);
-            match component {
-                0 => planes::leading_rows(y, w, h, n),
-                1 => planes::leading_rows(cb, w, h, n),
-                _ => planes::leading_rows(cr, w, h, n),
-            }
-        }
+        RowsAnswer::Rows(n) => leading_part(state.picture, component, y, cb, cr, n),
     }
 }

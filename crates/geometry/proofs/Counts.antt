@@ -2,8 +2,6 @@
 use mathlib.Core.Path.{_≡_, sym, ap, _∙_}
 use Prim.Native.Nat.{ℕ, _/_, _≤_, _<_}
 use native.Mathlib.Omega.{arith}
-use Rattle.standard.specs.declared.Picture.{Picture}
-use Rattle.standard.specs.Picture.{components}
 use Rattle.geometry.specs.Geometry.{Counted}
 
 pub counted : {n limit r : ℕ} → r ≡ n → 0 < n → n ≤ limit → Counted n limit r

@@ -1,7 +1,7 @@
 // A description tested, and what it says: planes and CTBs of each component, the order of CTUs, places of marks.
 ghost use mathlib.Core.Path.{_≡_};
 ghost use mathlib.Core.Logic.{_⊎_};
-ghost use Prim.Native.Nat.{_+_, _-_, _*_, _/_, _^_, _≤_, _<_, min};
+ghost use Prim.Native.Nat.{_+_, _-_, _*_, _/_, _≤_, _<_, min};
 ghost use Rattle.standard.specs.Picture.{Side, Rules, depthOf, components, planeWidth, planeHeight, samplesOf};
 ghost use Rattle.standard.specs.Picture.{ctbWidth, ctbHeight, columns, rows, ctuCount, rectangle, grown, due, leftOf, aboveOf, mergeLeft, mergeUp};
 ghost use Rattle.standard.specs.Sets.{largest, depthIn, most, switchesIn, switchesOf};
@@ -19,9 +19,9 @@ use standard::State;
 use standard::Switches;
 
 // What a component's width and height are divided by.
-pub struct Divisors {
-    pub across: usize,
-    pub down: usize,
+struct Divisors {
+    across: usize,
+    down: usize,
 }
 
 // A neighbour of a CTU that a merge may reach, or none.
@@ -105,18 +105,15 @@ fn shift_of(p: Picture, component: u8) -> u32
     depth - coded_depth(depth)
 }
 
-// M: 2 to the power of ( Min( bitDepth, 10 ) - 5 ), minus 1 (9.3.3); up to 5 bits it is 0.
+// M: 2 to the power of ( Min( bitDepth, 10 ) - 5 ), minus 1 (9.3.3); below 5 bits it is 0.
 fn largest_magnitude(depth: u32) -> u32
     ensures { λ r. ⌜ r ≡ largest depth ⌝ }
 {
-    match depth {
-        0..=5 => 0,
-        6 => 1,
-        7 => 3,
-        8 => 7,
-        9 => 15,
-        _ => 31,
+    let bits = coded_depth(depth);
+    if bits < 5 {
+        return 0;
     }
+    (1u32 << (bits - 5)) - 1
 }
 
 // ---- what bins and the rules of a set depend on
@@ -167,14 +164,14 @@ pub fn most_of(s: Switches, component: u8) -> u32
 
 // ---- components and planes
 
-pub fn component_count(p: Picture) -> usize
+fn component_count(p: Picture) -> usize
     ensures { λ r. ⌜ r ≡ components p ⌝ }
 {
     if p.format == 0 { 1 } else { 3 }
 }
 
 // The one place where the chroma formats differ.
-pub fn divisors_of(format: u8, component: u8) -> Divisors
+fn divisors_of(format: u8, component: u8) -> Divisors
     ensures { λ r. ⌜ Divided format component r ⌝ }
 {
     if component == 0 {
@@ -183,7 +180,7 @@ pub fn divisors_of(format: u8, component: u8) -> Divisors
     Divisors { across: 2, down: 2 }
 }
 
-fn part(n: u32, divisor: usize) -> usize
+fn quotient(n: u32, divisor: usize) -> usize
     requires { ⌜ 0 < divisor ⌝ }
     ensures { λ r. ⌜ r ≡ n / divisor ⌝ }
 {
@@ -195,7 +192,7 @@ pub fn plane_width(p: Picture, component: u8) -> usize
     ensures { λ r. ⌜ Counted (planeWidth p component) 8192 r ⌝ }
 {
     let d = divisors_of(p.format, component);
-    part(p.width, d.across)
+    quotient(p.width, d.across)
 }
 
 pub fn plane_height(p: Picture, component: u8) -> usize
@@ -203,7 +200,7 @@ pub fn plane_height(p: Picture, component: u8) -> usize
     ensures { λ r. ⌜ Counted (planeHeight p component) 8192 r ⌝ }
 {
     let d = divisors_of(p.format, component);
-    part(p.height, d.down)
+    quotient(p.height, d.down)
 }
 
 pub fn sample_count(p: Picture, component: u8) -> usize
@@ -261,12 +258,12 @@ pub fn ctu_count(p: Picture) -> usize
     columns_of(p) * rows_of(p)
 }
 
-pub fn ctb_width(p: Picture, component: u8) -> usize
+fn ctb_width(p: Picture, component: u8) -> usize
     requires { ⌜ Rules p ⌝ }
     ensures { λ r. ⌜ Counted (ctbWidth p component) 64 r ⌝ }
 {
     let d = divisors_of(p.format, component);
-    part(p.ctb, d.across)
+    quotient(p.ctb, d.across)
 }
 
 pub fn ctb_height(p: Picture, component: u8) -> usize
@@ -274,7 +271,7 @@ pub fn ctb_height(p: Picture, component: u8) -> usize
     ensures { λ r. ⌜ Counted (ctbHeight p component) 64 r ⌝ }
 {
     let d = divisors_of(p.format, component);
-    part(p.ctb, d.down)
+    quotient(p.ctb, d.down)
 }
 
 fn least(a: usize, b: usize) -> usize

@@ -1,15 +1,13 @@
-// What the calls share: the reasons with which they begin, whether a CTU is due or a block is there, and
-// a mark.
+// What the calls share: the reasons with which they begin, and whether a CTU is due or a block is there.
 use standard::Answer;
 use standard::Picture;
 use standard::Refusal;
 use standard::State;
 ghost use mathlib.Core.Path.{_≡_};
 ghost use mathlib.Core.List.{_++_};
-ghost use Prim.Native.Nat.{_<_};
-ghost use Rattle.standard.specs.Picture.{Rules, components, samplesOf, ctuCount};
+ghost use Rattle.standard.specs.Picture.{Rules, samplesOf};
 ghost use Rattle.standard.specs.Refusals.{Tells};
-ghost use Rattle.standard.specs.Reasons.{MarksFit, markOf, descriptionReasons, lentReasons, callReasons, dueReasons, blockReasons};
+ghost use Rattle.standard.specs.Reasons.{descriptionReasons, lentReasons, callReasons, dueReasons, blockReasons};
 ghost use Rattle.standard.specs.Contracts.{Judged};
 ghost use Rattle.lent.specs.Lengths.{PlanesRight, BytesRight, LentRight};
 
@@ -174,15 +172,4 @@ pub fn block_answer(state: State, lent: Lent, component: u8, ctb: u32) -> Answer
             Answer::Done
         }
     }
-}
-
-// ---- a mark
-
-// The mark of a CTB.
-pub fn mark_of(p: Picture, component: u8, ctb: u32, marks: &[u8]) -> u8
-    requires { ⌜ Rules p × MarksFit p (now marks) × (component < components p) × (ctb < ctuCount p) ⌝ }
-    ensures { λ m. ⌜ m ≡ markOf p (now (marks .entry)) component ctb ⌝ }
-{
-    let i = geometry::mark_place(p, component, ctb);
-    marks[i]
 }

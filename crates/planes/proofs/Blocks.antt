@@ -1,6 +1,6 @@
 -- The algebra of `Written` over rectangles, point by point: nothing written, one rectangle after another, a row or some columns more,
 -- another name for the same samples, a lent part of a row.
-use mathlib.Core.Path.{_≡_, refl, sym, ap, ap₂, _∙_, subst}
+use mathlib.Core.Path.{_≡_, refl, sym, ap, ap₂, _∙_}
 use mathlib.Core.List.{List, [], _∷_, _++_}
 use mathlib.Core.Logic.{_⊎_, inl, inr, ⊎-elim}
 use Prim.Native.Nat.{ℕ, zero, suc, _+_, _-_, _*_, _≤_, _<_}
@@ -30,9 +30,6 @@ module _ {w h : ℕ} {f : ℕ → ℕ → ℕ} where
   pub no-rows : {x0 x1 y : ℕ} {o : List ℕ} → Written w h (block x0 x1 y y) f o o
   no-rows = none-written (λ x y k. omega arith)
 
-  pub no-columns : {x y0 y1 : ℕ} {o : List ℕ} → Written w h (block x x y0 y1) f o o
-  no-columns = none-written (λ x y k. omega arith)
-
   -- ---- other names
 
   pub same-samples : {g : ℕ → ℕ → ℕ} {r : Rectangle} {o o′ : List ℕ} → ((x y : ℕ) → x < w → y < h → Inside r x y → f x y ≡ g x y) → Written w h r f o o′ → Written w h r g o o′
@@ -40,14 +37,6 @@ module _ {w h : ℕ} {f : ℕ → ℕ → ℕ} where
     long = k .long;
     inside = λ x y p q i. k .inside x y p q i ∙ e x y p q i;
     outside = k .outside;
-  }
-
-  pub same-places : {r s : Rectangle} {o o′ : List ℕ} → ((x y : ℕ) → x < w → y < h → Inside r x y → Inside s x y) → ((x y : ℕ) → x < w → y < h → Inside s x y → Inside r x y)
-      → Written w h r f o o′ → Written w h s f o o′
-  same-places to from k = record {
-    long = k .long;
-    inside = λ x y p q i. k .inside x y p q (from x y p q i);
-    outside = λ x y p q i. k .outside x y p q (λ j. i (to x y p q j));
   }
 
   -- ---- one rectangle after another

@@ -25,10 +25,6 @@ one-filled {f} {o} {o′} n v l e k = record {
 pub all-filled : {f : ℕ → ℕ} {o o′ : List ℕ} (n : ℕ) → length o ≤ n → Filled n f o o′ → Filled (length o) f o o′
 all-filled n h k = record { long = k .long; each = λ i p. k .each i (omega arith) }
 
--- another name for the same samples
-pub filled-as : {f g : ℕ → ℕ} {o o′ : List ℕ} (n : ℕ) → ((i : ℕ) → i < n → f i ≡ g i) → Filled n f o o′ → Filled n g o o′
-filled-as n e k = record { long = k .long; each = λ i p. k .each i p ∙ e i p }
-
 -- what is filled determines the part
 pub one-part : {f : ℕ → ℕ} {o a b : List ℕ} → Filled (length o) f o a → Filled (length o) f o b → a ≡ b
 one-part {f} {o} {a} {b} k m = ext-getD 0 a b (k .long ∙ sym (m .long)) (λ i h. k .each i (rw (← k .long) h) ∙ sym (m .each i (rw (← k .long) h)))

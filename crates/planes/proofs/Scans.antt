@@ -1,15 +1,12 @@
 -- Samples ORed together: no one of them is above that.
-use mathlib.Core.Path.{_≡_, refl, sym, ap, ap₂, _∙_, subst}
+use mathlib.Core.Path.{_≡_, refl, ap₂, subst}
 use mathlib.Core.Bool.{Bool, true, false}
-use mathlib.Core.Logic.{_⊎_, inl, inr}
 use mathlib.Core.List.{List}
-use Prim.Native.Nat.{ℕ, zero, suc, _+_, _-_, _*_, _%_, _^_, _≤_, _<_}
-use native.Mathlib.Nat.{le-trans, one-mul, mod-eq-of-lt, lt-of-le-of-lt}
+use Prim.Native.Nat.{ℕ, zero, suc, _+_, _-_, _≤_, _<_}
+use native.Mathlib.Nat.{le-trans}
 use native.Mathlib.Decide.{decLt}
 use native.Mathlib.Numerals.{add-one}
 use native.Mathlib.Omega.{arith}
-use lib.Dec.{lit<}
-use lib.Pow.{pow-mono}
 use lib.Bits.{bitOr, or-add-and, and-le-l, and-le-r}
 use Rattle.standard.specs.Refusals.{Tells}
 use Rattle.standard.specs.declared.Rectangle.{Rectangle}
@@ -56,13 +53,6 @@ pair-within plane w r y v top e h x p q =
     both : ℕ → ℕ
     both u = bitOr (at plane w u y) (at plane w u (rowBelow r y))
 
--- and a column of them with no sample above it
-pub column-within : {a b top : ℕ} → ¬ ((top < a) ⊎ (top < b)) → (a ≤ top) × (b ≤ top)
-column-within {a} {b} {top} n =
-    let p : ¬ (top < a) = λ l. n (inl l) in
-    let q : ¬ (top < b) = λ l. n (inr l) in
-    (omega arith, omega arith)
-
 -- what holds of the rows above y, of y and of the row below it, holds of the rows above y + 2
 pub two-more : (r : Rectangle) (y : ℕ) (P : ℕ → Type 0) → ((v : ℕ) → v < y → r .y0 ≤ v → v < r .y1 → P v) → P y → P (rowBelow r y)
     → (v : ℕ) → v < y + 2 → r .y0 ≤ v → v < r .y1 → P v
@@ -72,19 +62,6 @@ two-more r y P above here below v h p q = of (decLt v y) (decLt y v)
     of (yes a) d = above v a p q
     of (no a) (no d) = let e : y ≡ v = omega arith in subst P e here
     of (no a) (yes d) = let e : rowBelow r y ≡ v = omega arith in subst P e below
-
--- 1 shifted by d in 32 bits
-pub shifted : (d : ℕ) → d ≤ 16 → (1 * 2 ^ d) % 4294967296 ≡ 2 ^ d
-shifted d h = rw one-mul (mod-eq-of-lt (lt-of-le-of-lt (pow-mono h) (lit< tt)))
-
--- ---- a scan: what holds of each number below j, and at j, holds of each below j + 1
-
-pub up-to : (P : ℕ → Type 0) (j : ℕ) → ((n : ℕ) → n < j → P n) → P j → (n : ℕ) → n < j + 1 → P n
-up-to P j below here n h = of (decLt n j)
-  where
-    of : Dec (n < j) → P n
-    of (yes q) = below n q
-    of (no q) = let e : j ≡ n = omega arith in subst P e here
 
 -- the answer of a scan that found nothing
 pub tells-none : {P : Type 0} (t : Bool) → t ≡ false → ¬ P → Tells P t

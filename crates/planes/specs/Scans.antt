@@ -1,6 +1,5 @@
 -- What the scans look for: a sample above the top.
 use mathlib.Core.List.{List}
-use mathlib.Core.Logic.{_⊎_}
 use Prim.Native.Nat.{ℕ, zero, suc, _+_, _-_, _<_, min}
 use lib.Bits.{bitOr}
 use lib.ListN.{length, getD}
@@ -12,11 +11,7 @@ use Rattle.standard.specs.Samples.{at}
 abbrev pub SampleAbove : List ℕ → ℕ → Type 0
 SampleAbove samples top = (n : ℕ) × (n < length samples) × (top < getD samples n 0)
 
--- of two rows of a plane, w samples to a row, in one column
-abbrev pub PairAbove : List ℕ → ℕ → ℕ → ℕ → ℕ → ℕ → Type 0
-PairAbove plane w x y b top = (top < at plane w x y) ⊎ (top < at plane w x b)
-
--- of a rectangle
+-- of a rectangle of a plane, w samples to a row
 abbrev pub BlockAbove : List ℕ → ℕ → Rectangle → ℕ → Type 0
 BlockAbove plane w r top = (x : ℕ) × (y : ℕ) × Inside r x y × (top < at plane w x y)
 

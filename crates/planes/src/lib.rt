@@ -4,12 +4,11 @@ ghost use mathlib.Core.Path.{_≡_};
 ghost use Prim.Native.Nat.{_+_, _-_, _*_, _^_, _≤_, _<_};
 ghost use lib.Bits.{bitOr};
 ghost use lib.ListN.{length, getD, take};
-ghost use Rattle.standard.specs.Samples.{at};
 ghost use Rattle.standard.specs.Refusals.{Tells};
 ghost use Rattle.standard.specs.Reasons.{area};
 ghost use Rattle.standard.specs.Calls.{Written, delivered};
 ghost use Rattle.planes.specs.Places.{Indexed, Placed, row, Filled};
-ghost use Rattle.planes.specs.Scans.{together, SampleAbove, PairAbove, BlockAbove, rowBelow, pairTogether};
+ghost use Rattle.planes.specs.Scans.{together, SampleAbove, BlockAbove, rowBelow, pairTogether};
 
 // Where column x of row y stands in a plane.
 pub fn index(w: usize, h: usize, x: usize, y: usize) -> usize
@@ -139,21 +138,9 @@ pub fn sample_above(samples: &[u16], top: u16) -> bool
     found
 }
 
-// Whether column x has a sample above the top in row y or in row b.
-fn pair_above(plane: &[u16], w: usize, h: usize, x: usize, y: usize, b: usize, top: u16) -> bool
-    requires { ⌜ (w ≤ 8192) × (h ≤ 8192) × (length (now plane) ≡ w * h) × (x < w) × (y < h) × (b < h) ⌝ }
-    ensures { λ t. ⌜ Tells (PairAbove (now (plane .entry)) w x y b top) t ⌝ }
-{
-    let i = index(w, h, x, y);
-    let k = index(w, h, x, b);
-    if plane[i] > top {
-        return true;
-    }
-    plane[k] > top
-}
-
 // Whether a sample of the rectangle is above the top. Two rows are passed over where their samples,
-// ORed together, are not; in others the scan goes column by column, and stops at the first that is.
+// ORed together, are not above it; elsewhere a row is gone through column after column. So the scan is
+// left at the first such sample, in the order of rows and then of columns.
 pub fn some_above(plane: &[u16], w: usize, h: usize, r: Rectangle, top: u16) -> bool
     requires { ⌜ Placed w h r × (length (now plane) ≡ w * h) ⌝ }
     ensures { λ t. ⌜ Tells (BlockAbove (now (plane .entry)) w r top) t ⌝ }
@@ -161,18 +148,20 @@ pub fn some_above(plane: &[u16], w: usize, h: usize, r: Rectangle, top: u16) -> 
     let mut found = false;
     let mut y = r.y0;
     'scan: while y < r.y1 {
-        if or_pair(plane, w, h, r, y) > top {
-            let b = row_below(r, y);
+        if or_pair(plane, w, h, r, y) <= top {
+            y += 2;
+        } else {
             let mut x = r.x0;
             while x < r.x1 {
-                if pair_above(plane, w, h, x, y, b, top) {
+                let i = index(w, h, x, y);
+                if plane[i] > top {
                     found = true;
                     break 'scan;
                 }
                 x += 1;
             }
+            y += 1;
         }
-        y += 2;
     }
     found
 }

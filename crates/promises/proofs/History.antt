@@ -1,6 +1,5 @@
 -- The history of a picture: every call, refused or not, keeps what holds of the world and moves it as accepted calls tell, and so do all of them.
 use mathlib.Core.Path.{_≡_, refl}
-use mathlib.Core.Bool.{Bool}
 use mathlib.Core.List.{List, [], _∷_}
 use Prim.Native.Nat.{ℕ, _^_, _<_}
 use native.Mathlib.Decide.{decLt}

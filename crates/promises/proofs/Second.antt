@@ -27,7 +27,8 @@ due-call due = record { rules = due .rules; table-fits = due .lengths .table; un
 
 -- ---- reading
 
-reads-clear : (bytes : List ℕ) (count : ℕ) (w : World) {q : CtuSet} → Due w → count ≤ 8 * length bytes → MeansHere (w .state) (w .table) q (binsOf bytes count)
+-- while a unit is due, with sound state and buffers, no reason holds against bins that mean a set
+pub reads-clear : (bytes : List ℕ) (count : ℕ) (w : World) {q : CtuSet} → Due w → count ≤ 8 * length bytes → MeansHere (w .state) (w .table) q (binsOf bytes count)
     → Clear (reasonsOf (Read bytes count) w)
 reads-clear bytes count w due room m =
     read-clear (w .state) bytes count (w .table) (record {
@@ -40,12 +41,18 @@ reads-clear bytes count w due room m =
       };
     })
 
+-- so they are read as it, by demand 2
+pub reads-as-meant : {stage : Stage} → Demand2 stage → (bytes : List ℕ) (count : ℕ) (w : World) (q : CtuSet) → Due w → count ≤ 8 * length bytes
+    → MeansHere (w .state) (w .table) q (binsOf bytes count) → stage (Read bytes count) w ≡ record { answer = set-read q; out = []; world = appended w q }
+reads-as-meant d bytes count w q due room m =
+    let e = d .reads bytes count w (reads-clear bytes count w due room m) in
+    e .2 ∙ ap (λ (a : CtuSet). record { answer = set-read a; out = []; world = appended w a }) (one-meaning (e .1) m)
+
 module _ {stage : Stage} (meets : (c : Call) (w : World) → Contract c w (stage c w)) where
-  reads : (bytes : List ℕ) (count : ℕ) (w : World) (q : CtuSet) → Due w → count ≤ 8 * length bytes → MeansHere (w .state) (w .table) q (binsOf bytes count)
-      → stage (Read bytes count) w ≡ record { answer = set-read q; out = []; world = appended w q }
-  reads bytes count w q due room m =
-      let e = meets (Read bytes count) w .acts (reads-clear bytes count w due room m) in
-      e .2 ∙ ap (λ (a : CtuSet). record { answer = set-read a; out = []; world = appended w a }) (one-meaning (e .1) m)
+  reads : (bytes : List ℕ) (count : ℕ) (w : World) → Clear (reasonsOf (Read bytes count) w)
+      → (q : CtuSet) × MeansHere (w .state) (w .table) q (binsOf bytes count)
+      × (stage (Read bytes count) w ≡ record { answer = set-read q; out = []; world = appended w q })
+  reads bytes count w free = meets (Read bytes count) w .acts free
 
   reads-only : (bytes : List ℕ) (count : ℕ) (w : World) (q : CtuSet) → stage (Read bytes count) w .answer ≡ set-read q
       → MeansHere (w .state) (w .table) q (binsOf bytes count) × Valid (switchesOf (w .state)) q

@@ -1,14 +1,13 @@
 -- One block of one component: where its mark is set or its samples are written, all is as set or written there, and as before elsewhere.
 use mathlib.Core.Path.{_≡_, sym, ap, _∙_, subst}
 use mathlib.Core.List.{List}
-use Prim.Native.Nat.{ℕ, zero, suc, _*_, _≤_, _<_}
+use Prim.Native.Nat.{ℕ, _<_}
 use native.Mathlib.Nat.{mul-comm}
 use native.Mathlib.Decide.{ℕ-discrete}
-use native.Mathlib.Omega.{arith}
 use lib.ListN.{length, set}
 use lib.Seq.{getD-set-same, getD-set-other}
 use Rattle.standard.specs.declared.Picture.{Picture}
-use Rattle.standard.specs.Picture.{Rules, components, planeWidth, planeHeight, samplesOf, ctuCount, Inside, rectangle}
+use Rattle.standard.specs.Picture.{Rules, components, planeWidth, ctuCount, Inside, rectangle}
 use Rattle.standard.specs.Samples.{at}
 use Rattle.standard.specs.Reasons.{Planes, planeOf, PlanesFit, MarksFit, markPlace, markOf}
 use Rattle.standard.specs.Calls.{BlockWritten}

@@ -1,6 +1,5 @@
 -- What a call does to the world where no reason holds, and the contract of a stage: refused for the first reason, with all as before, or this.
 use mathlib.Core.Path.{_≡_}
-use mathlib.Core.Bool.{Bool}
 use mathlib.Core.List.{List, []}
 use Prim.Native.Nat.{ℕ}
 use Rattle.standard.specs.declared.CtuSet.{CtuSet}
@@ -9,7 +8,7 @@ use Rattle.standard.specs.Reasons.{Planes, planeOf, MeansHere}
 use Rattle.standard.specs.Calls.{openedMarks, openedState, tableWith, stateAfter, marked, Delivered, Filtered, FinishedRows, leading}
 use Rattle.standard.specs.Contracts.{Wrote}
 use Rattle.standard.specs.Refusals.{First, Clear}
-use Rattle.promises.specs.World.{World, Call, Open, Read, Write, Deliver, Filter, Rows, Answer, refused, done, set-read, bins-written, rows, room, Result, Stage, reasonsOf}
+use Rattle.promises.specs.World.{World, Call, Open, Read, Write, Deliver, Filter, Rows, refused, done, set-read, bins-written, rows, room, Result, reasonsOf}
 
 -- marks and next CTU 0
 abbrev pub opened : World → World

@@ -2,7 +2,7 @@
 use mathlib.Core.Path.{_≡_}
 use mathlib.Core.Bool.{Bool}
 use mathlib.Core.List.{List, [], _∷_}
-use mathlib.Core.Logic.{_⊎_, inl, inr}
+use mathlib.Core.Logic.{_⊎_}
 use Prim.Native.Nat.{ℕ, _+_, _*_, _≤_, _<_}
 use lib.ListN.{length}
 use Rattle.standard.specs.declared.Picture.{Picture}
@@ -12,10 +12,10 @@ use Rattle.standard.specs.Picture.{Rules, components, planeWidth, ctuCount, Ins
 use Rattle.standard.specs.Sets.{switchesOf, Valid}
 use Rattle.standard.specs.Bins.{binsOf, packed}
 use Rattle.standard.specs.Samples.{Parameters, at, filteredSample, filteredPlane}
-use Rattle.standard.specs.Refusals.{First}
-use Rattle.standard.specs.Reasons.{Planes, planeOf, PlanesFit, MarksFit, TableFits, UnitIsDue, MeansHere, ShortestHere, NeighbourOutsideTheRules}
+use Rattle.standard.specs.Refusals.{First, Clear}
+use Rattle.standard.specs.Reasons.{planeOf, PlanesFit, MarksFit, TableFits, UnitIsDue, MeansHere, ShortestHere, NeighbourOutsideTheRules}
 use Rattle.standard.specs.Calls.{delivered, Filtered, FinishedRows, leading}
-use Rattle.promises.specs.World.{World, pictureOf, Call, Open, Read, Write, Deliver, Filter, Rows, Answer, refused, done, set-read, bins-written, rows, Accepted, Result, Stage, reasonsOf}
+use Rattle.promises.specs.World.{World, pictureOf, Call, Open, Read, Write, Deliver, Filter, Rows, Answer, refused, done, set-read, bins-written, rows, Accepted, Stage, reasonsOf}
 use Rattle.promises.specs.Contract.{appended, unchanged}
 
 -- DEMAND 1. "A call is refused exactly when one of its reasons in document 01 holds, with the number of the first in the order given
@@ -43,9 +43,11 @@ pub record Due (w : World) : Type 0 where
 
 -- DEMAND 2
 pub record Demand2 (stage : Stage) : Type 0 where
-  -- "Reading gives exactly the parameters of ITU-T H.265 (04/2013)": bins that mean a set are read as it
-  pub reads : (bytes : List ℕ) (count : ℕ) (w : World) (q : CtuSet) → Due w → count ≤ 8 * length bytes → MeansHere (w .state) (w .table) q (binsOf bytes count)
-      → stage (Read bytes count) w ≡ record { answer = set-read q; out = []; world = appended w q }
+  -- "Reading gives exactly the parameters of ITU-T H.265 (04/2013)": wherever no reason of document 01 holds, the answer is the set that the
+  -- bins mean, also beside a neighbour outside the rules that no merge copies
+  pub reads : (bytes : List ℕ) (count : ℕ) (w : World) → Clear (reasonsOf (Read bytes count) w)
+      → (q : CtuSet) × MeansHere (w .state) (w .table) q (binsOf bytes count)
+      × (stage (Read bytes count) w ≡ record { answer = set-read q; out = []; world = appended w q })
   -- and nothing else is
   pub reads-only : (bytes : List ℕ) (count : ℕ) (w : World) (q : CtuSet) → stage (Read bytes count) w .answer ≡ set-read q
       → MeansHere (w .state) (w .table) q (binsOf bytes count) × Valid (switchesOf (w .state)) q

@@ -1,5 +1,4 @@
 -- The world of one picture, the state and all that is lent; the calls and their answers; and what a stage is.
-use mathlib.Core.Path.{_≡_}
 use mathlib.Core.List.{List, []}
 use Prim.Native.Nat.{ℕ}
 use Rattle.standard.specs.declared.State.{State}

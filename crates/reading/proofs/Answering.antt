@@ -26,17 +26,15 @@ use Rattle.sets.proofs.Finding.{sound-of, found-stored}
 use Rattle.bins.specs.declared.Form.{Form}
 use Rattle.bins.specs.declared.Form.the-variants.{Left, Up, Full}
 use Rattle.bins.specs.declared.Form.the-variants as form
-use Rattle.bins.specs.declared.Answer.{Answer}
-use Rattle.bins.specs.declared.Answer.the-variants as answer
-use Rattle.bins.specs.Forms.{isThere, copied, resolved, ReadAs}
-use Rattle.bins.proofs.Contracts.{form-means, form-early, form-remain, read-form-unique}
+use Rattle.bins.specs.Forms.{isThere, ReadAs}
+use Rattle.bins.proofs.Contracts.{read-form-unique}
 use Rattle.reading.specs.Reading.{There, Copied, Answered}
 use Rattle.reading.proofs.Merges.{left-form, up-form, off-remain, left-bins, up-bins}
 
--- a merge has a neighbour
-neighbour : (table : List ℕ) (near : Option ℕ) {a : Answer} → copied (storedAt table near) ≡ some a → (k : ℕ) × (near ≡ some k)
+-- a merge has a neighbour, whose set the table holds
+neighbour : (table : List ℕ) (near : Option ℕ) {q : CtuSet} → storedAt table near ≡ some q → (k : ℕ) × (near ≡ some k) × (q ≡ stored table k)
 neighbour table none e = impossible cc
-neighbour table (some k) e = (k, refl)
+neighbour table (some k) e = (k, refl, cc)
 
 module _ (s : State) (bytes : List ℕ) (count : ℕ) (table : List ℕ) where
   abbrev bins : List Bool
@@ -92,44 +90,42 @@ module _ (s : State) (bytes : List ℕ) (count : ℕ) (table : List ℕ) where
 
   -- ---- the answers
 
-  means : (f : Form) {q : CtuSet} → Formed f → resolved f L U ≡ some (answer.Set q) → Means sw L U q bins
-  means f h e = form-means sw bins f h L U refl refl e
-
   pub answer-early : Formed form.TooEarly → Answers (Refused TooEarly)
-  answer-early h = (inl (form-early sw bins form.TooEarly h L U refl refl refl, refl), tt)
+  answer-early h = (inl (h L U refl refl, refl), tt)
 
   pub answer-remain : Formed form.BinsRemain → Answers (Refused BinsRemain)
-  answer-remain h =
-      let r = form-remain sw bins form.BinsRemain h L U refl refl refl in
-      (inr (λ e. early-not-remain e r, inl (r, refl)), tt)
+  answer-remain h = let r = h L U refl refl in (inr (λ e. early-not-remain e r, inl (r, refl)), tt)
 
   pub answer-full : {q : CtuSet} → Formed (Full q) → Answers (Set q)
-  answer-full {q} h =
-      let m = means (Full q) h refl in
+  answer-full h =
+      let m = h L U refl refl in
       ((meant-not-early m, (meant-not-remain m, (λ t. full-none (meant-not-remain m) h (t .1), tt))), m)
 
   -- a merge with a neighbour
-  module _ (near : Option ℕ) (f : Form) (h : Formed f) (resolves : resolved f L U ≡ copied (storedAt table near))
-      (copies : (q : CtuSet) (k : ℕ) → near ≡ some k → Means sw L U q bins → Copies s table bins k)
+  module _ (near : Option ℕ) {p : CtuSet} (has : storedAt table near ≡ some p) (m : Means sw L U p bins)
+      (copies : (k : ℕ) → near ≡ some k → Copies s table bins k)
       (only : (j : ℕ) → ¬ Remain sw L U bins → Copies s table bins j → near ≡ some j) where
-    merge-means : {k : ℕ} → near ≡ some k → Means sw L U (stored table k) bins
-    merge-means e = means f h (resolves ∙ ap (λ (o : Option ℕ). copied (storedAt table o)) e)
-
     answer-merge : (r : ReadAnswer) → Copied sw table near r → Answers r
     answer-merge (Set q) (k, e, holds) =
-        let m : Means sw L U q bins = subst (λ (a : CtuSet). Means sw L U a bins) (found-stored holds) (merge-means e) in
-        let remain = meant-not-remain m in
-        ((meant-not-early m, (remain, (λ t. t .2 (subst (Sound sw table) (there (sym (only (t .0) remain (t .1)) ∙ e)) (sound-of holds)), tt))), m)
+        let n = neighbour table near has in
+        let same : p ≡ q = n .2 ∙ ap (stored table) (there (sym e ∙ n .1)) ∙ found-stored holds in
+        let remain = meant-not-remain m in (
+          (meant-not-early m, (remain, (λ t. t .2 (subst (Sound sw table) (there (sym (only (t .0) remain (t .1)) ∙ e)) (sound-of holds)), tt))),
+          subst (λ (a : CtuSet). Means sw L U a bins) same m,
+        )
     answer-merge (Refused r) (e, bad) =
-        let k = neighbour table near (sym resolves ∙ h L U refl refl) in
-        let m = merge-means (k .1) in
-        (inr (meant-not-early m, inr (meant-not-remain m, inl ((k .0, copies _ (k .0) (k .1) m, bad (k .0) (k .1)), ap numberOf e))), tt)
+        let (k, f, _) = neighbour table near has in
+        (inr (meant-not-early m, inr (meant-not-remain m, inl ((k, copies k f, bad k f), ap numberOf e))), tt)
 
   pub answer-left : Formed Left → (r : ReadAnswer) → Copied sw table (mergeLeft s) r → Answers r
-  answer-left h = answer-merge (mergeLeft s) Left h refl (λ q k e m. left e (left-bins h m)) (λ j n c. left-only n h c)
+  answer-left h =
+      let t = h L U refl refl in
+      answer-merge (mergeLeft s) (t .1) (t .2) (λ k e. left e (left-bins h (t .2))) (λ j n c. left-only n h c)
 
   pub answer-up : Formed Up → (r : ReadAnswer) → Copied sw table (mergeUp s) r → Answers r
-  answer-up h = answer-merge (mergeUp s) Up h refl (λ q k e m. up e (up-bins h m)) (λ j n c. up-only n h c)
+  answer-up h =
+      let t = h L U refl refl in
+      answer-merge (mergeUp s) (t .1) (t .2) (λ k e. up e (up-bins h (t .2))) (λ j n c. up-only n h c)
 
 -- an answer by the back of the reasons, where none of the front holds
 pub answered-after : (s : State) (bytes : List ℕ) (count : ℕ) (table : List ℕ) (front back : List Reason) (r : ReadAnswer) → Clear front

@@ -12,7 +12,7 @@ use Rattle.standard.proofs.Codes.{impossible}
 use Rattle.bins.specs.declared.Form.{Form}
 use Rattle.bins.specs.declared.Form.the-variants.{Left, Up, Full}
 use Rattle.bins.specs.Forms.{isThere, ReadAs}
-use Rattle.bins.proofs.Contracts.{means-set, read-form-unique}
+use Rattle.bins.proofs.Contracts.{read-form-unique}
 
 -- ---- bins of a merge, or of none
 
@@ -29,21 +29,20 @@ module _ (s : Switches) (left up : Option CtuSet) (bins : List Bool) where
 
   pub left-form : anyOn s ≡ true → isThere left ≡ true → bins ≡ true ∷ [] → As Left
   left-form on h e none u hl hu = impossible cc
-  left-form on h e (some q) u hl hu = ap some (means-set s (some q) u bins (merge-left on refl e))
+  left-form on h e (some q) u hl hu = (q, refl, merge-left on refl e)
 
   pub up-form : anyOn s ≡ true → isThere up ≡ true → bins ≡ notTaken left ++ (true ∷ []) → As Up
   up-form on h e l none hl hu = impossible cc
-  up-form on h e l (some q) hl hu =
-      ap some (means-set s l (some q) bins (merge-up on refl (e ∙ ap (λ (x : List Bool). x ++ (true ∷ [])) (same-bin left l (sym hl)))))
+  up-form on h e l (some q) hl hu = (q, refl, merge-up on refl (e ∙ ap (λ (x : List Bool). x ++ (true ∷ [])) (same-bin left l (sym hl))))
 
   full-form : {q : CtuSet} → anyOn s ≡ true → Valid s q → bins ≡ notTaken left ++ (notTaken up ++ full s q) → As (Full q)
   full-form {q} on v e l u hl hu =
       let f = ap (λ (x : List Bool). x ++ (notTaken up ++ full s q)) (same-bin left l (sym hl)) in
       let g = ap (λ (x : List Bool). notTaken l ++ (x ++ full s q)) (same-bin up u (sym hu)) in
-      ap some (means-set s l u bins (in-full on v (e ∙ f ∙ g)))
+      in-full on v (e ∙ f ∙ g)
 
   off-form : anyOn s ≡ false → bins ≡ [] → As (Full allOff)
-  off-form off e l u hl hu = ap some (means-set s l u bins (no-bins off refl e))
+  off-form off e l u hl hu = no-bins off refl e
 
   -- with both switches off, bins remain
   pub off-remain : anyOn s ≡ false → (b : Bool) (more : List Bool) → bins ≡ b ∷ more → Remain s left up bins

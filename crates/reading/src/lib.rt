@@ -47,7 +47,8 @@ fn is_there(n: Near) -> bool
     }
 }
 
-// A merge copies the neighbour's set, which the table must hold within the rules.
+// A merge copies the neighbour's set, which the table must hold within the rules. Bins merge only with a neighbour that
+// is there, so the arm of `Nothing` is never reached.
 fn copied(s: Switches, table: &[u8], n: Near) -> ReadAnswer
     requires { ⌜ InTable (now table) (nearOf n) ⌝ }
     ensures { λ r. ⌜ Copied s (now (table .entry)) (nearOf n) r ⌝ }

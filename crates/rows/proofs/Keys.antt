@@ -1,20 +1,20 @@
 -- Of four numbers, that whose key is n: each of them where n is its key and 0 elsewhere, ORed together. The keys of a band sample
 -- are the four bands.
-use mathlib.Core.Path.{_≡_, refl, sym, ap, ap₂, _∙_}
+use mathlib.Core.Path.{_≡_, refl, sym, ap, _∙_}
 use mathlib.Core.Bool.{cond}
-use Prim.Native.Nat.{ℕ, zero, suc, _+_, _-_, _/_, _%_, _^_, _<_, min}
+use Prim.Native.Nat.{ℕ, zero, suc, _+_, _-_, _/_, _%_, _^_, _<_}
 use native.Mathlib.Decide.{ℕ-discrete}
 use native.Mathlib.Omega.{arith}
 use borrow.Author.Tests.{eq-eqb, ne-eqb, le-ltb}
 use lib.Bits.{bitOr, or-zero-r}
 use lib.Dec.{eqb, ltb}
 use Rattle.standard.specs.Samples.{bandIdx}
-use Rattle.rows.specs.declared.Four.{Four}
+use Rattle.rows.specs.declared.ByIndex.{ByIndex}
 use Rattle.rows.specs.declared.Moves.{Moves}
 use Rattle.rows.specs.Moves.{Only, picked, indexOf, Distinct, moved}
 use Rattle.rows.specs.Parts.{bandOf, bandsFrom}
 
-module _ (keys v : Four) (n : ℕ) {a b c d : ℕ} (k : Distinct keys)
+module _ (keys v : ByIndex) (n : ℕ) {a b c d : ℕ} (k : Distinct keys)
     (o : Only n (keys .n1) (v .n1) a) (p : Only n (keys .n2) (v .n2) b)
     (q : Only n (keys .n3) (v .n3) c) (r : Only n (keys .n4) (v .n4) d) where
   abbrev Chosen : Type 0
@@ -83,7 +83,7 @@ band-is depth position s h =
     rw (after b position 0 h (omega arith), after b position 1 h (omega arith), after b position 2 h (omega arith), after b position 3 h (omega arith))
     (place ((b + 32 - position) % 32))
 
-pub band-moved : (m : Moves) (depth position s : ℕ) {four : Four} {r : ℕ} → position < 32 → four ≡ bandsFrom position
+pub band-moved : (m : Moves) (depth position s : ℕ) {four : ByIndex} {r : ℕ} → position < 32 → four ≡ bandsFrom position
     → r ≡ moved m (indexOf four (bandOf depth s)) s → r ≡ moved m (bandIdx depth position s) s
 band-moved m depth position s h e q =
-    q ∙ ap (λ (f : Four). moved m (indexOf f (bandOf depth s)) s) e ∙ ap (λ (n : ℕ). moved m n s) (band-is depth position s h)
+    q ∙ ap (λ (f : ByIndex). moved m (indexOf f (bandOf depth s)) s) e ∙ ap (λ (n : ℕ). moved m n s) (band-is depth position s h)

@@ -1,4 +1,5 @@
 pub mod Signs
+pub mod Tables
 pub mod Holds
 pub mod Scales
 pub mod Shifts

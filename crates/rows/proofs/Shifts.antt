@@ -1,17 +1,16 @@
 -- A rise and a fall move a sample as the standard's clipped sum does, and no sum of 16 bits wraps.
-use mathlib.Core.Path.{_≡_, refl, sym, ap, ap₂, _∙_, subst}
-use mathlib.Core.Bool.{false}
-use mathlib.Core.List.{List, [], _∷_}
-use Prim.Native.Nat.{ℕ, zero, suc, _+_, _-_, _*_, _^_, _≤_, _<_, min}
+use mathlib.Core.Path.{_≡_, refl, sym, ap, ap₂, _∙_}
+use mathlib.Core.List.{[], _∷_}
+use Prim.Native.Nat.{ℕ, zero, suc, _+_, _-_, _^_, _≤_, _<_, min}
 use native.Mathlib.Nat.{zero-mul}
 use native.Mathlib.Decide.{decLt}
 use native.Mathlib.Omega.{arith}
 use borrow.Author.Tests.{lt-ltb, le-ltb}
-use lib.IntN.{ℤ, pos, negsuc, _+ℤ_, _-ℤ_, _*ℤ_}
+use lib.IntN.{ℤ, pos, negsuc, _+ℤ_, _-ℤ_}
 use lib.ListN.{getD}
 use Rattle.standard.specs.Samples.{clip, offsetVal}
 use Rattle.rows.specs.declared.Scaled.{Scaled}
-use Rattle.rows.specs.declared.Four.{Four}
+use Rattle.rows.specs.declared.ByIndex.{ByIndex}
 use Rattle.rows.specs.declared.Moves.{Moves}
 use Rattle.rows.specs.Moves.{scaledBy, held, risesOf, fallsOf, movesOf, picked, moved, Room}
 
@@ -99,7 +98,7 @@ rise-le m r (suc (suc (suc (suc (suc n))))) = omega arith
 
 -- ---- the match on an index
 
-pub pick-rest : (v : Four) (n : ℕ) → (n ≡ 1 → ⊥) → (n ≡ 2 → ⊥) → (n ≡ 3 → ⊥) → (n ≡ 4 → ⊥) → 0 ≡ picked v n
+pub pick-rest : (v : ByIndex) (n : ℕ) → (n ≡ 1 → ⊥) → (n ≡ 2 → ⊥) → (n ≡ 3 → ⊥) → (n ≡ 4 → ⊥) → 0 ≡ picked v n
 pick-rest v zero a b c d = refl
 pick-rest v (suc zero) a b c d = absurd (a refl)
 pick-rest v (suc (suc zero)) a b c d = absurd (b refl)

@@ -1,7 +1,7 @@
 -- The sign of a difference of two naturals, the sum of two signs at 16 bits, and the category at such a sum:
 -- a signed number is known by the bits that a `match` tests.
 use mathlib.Core.Path.{_≡_, refl, sym, ap, ap₂, _∙_}
-use Prim.Native.Nat.{ℕ, zero, suc, _+_, _-_, _≤_, _<_}
+use Prim.Native.Nat.{ℕ, zero, suc, _-_, _≤_, _<_}
 use native.Mathlib.Nat.{not-suc-le-zero, le-refl, sub-self, add-zero}
 use native.Mathlib.Omega.{arith}
 use borrow.Author.Tests.{lt-ltb, le-ltb}
@@ -10,8 +10,7 @@ use lib.IntN.{ℤ, pos, negsuc, _+ℤ_, _-ℤ_}
 use mir.Syntax.{w16}
 use mir.Val.{SFits, ofZ, toZ}
 use mir.ValLaws.{toZ-ofZ}
-use lib.ListN.{getD}
-use Rattle.standard.specs.Samples.{sign, edgeIdx, categories}
+use Rattle.standard.specs.Samples.{sign, edgeIdx}
 use Rattle.standard.proofs.Tables.{category, category-is-edgeIdx}
 
 pub sign-lt : (s a : ℕ) → s < a → sign (pos s -ℤ pos a) ≡ negsuc 0
@@ -80,8 +79,3 @@ other (negsuc (suc (suc n))) a b c d = refl
 
 pub rest : (s : ℤ) → (ofZ w16 s ≡ 65534 → ⊥) → (ofZ w16 s ≡ 65535 → ⊥) → (ofZ w16 s ≡ 1 → ⊥) → (ofZ w16 s ≡ 2 → ⊥) → 0 ≡ edgeIdx (pos 2 +ℤ s)
 rest s a b c d = other s a b c d ∙ category-is-edgeIdx s
-
--- the match agrees with the table of categories
-pub match-is-table : (s : ℤ) (n : ℕ) → pos 2 +ℤ s ≡ pos n → category s ≡ getD categories n 0
-unfolding edgeIdx
-match-is-table s n e = category-is-edgeIdx s ∙ ap edgeIdx e

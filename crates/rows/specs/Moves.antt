@@ -2,13 +2,13 @@
 -- The law `moved-is` of proofs/Moves says that this is the standard's clipped sum.
 use mathlib.Core.Path.{_≡_}
 use mathlib.Core.Bool.{cond}
-use mathlib.Core.List.{List, [], _∷_}
+use mathlib.Core.List.{[], _∷_}
 use Prim.Native.Nat.{ℕ, _+_, _-_, _^_, _≤_, min}
 use lib.Dec.{eqb}
 use lib.IntN.{ℤ, pos, negsuc, _-ℤ_, _*ℤ_}
 use lib.ListN.{getD}
 use Rattle.rows.specs.declared.Scaled.{Scaled}
-use Rattle.rows.specs.declared.Four.{Four}
+use Rattle.rows.specs.declared.ByIndex.{ByIndex}
 use Rattle.rows.specs.declared.Moves.{Moves}
 
 -- offsets as coded, multiplied by 2^shift
@@ -26,7 +26,7 @@ held top (pos n) = min n top
 held top (negsuc n) = 0
 
 -- no offset raises a sample by more than top
-abbrev pub risesOf : ℕ → Scaled → Four
+abbrev pub risesOf : ℕ → Scaled → ByIndex
 risesOf top o = record {
   n1 = held top (o .o1);
   n2 = held top (o .o2);
@@ -34,7 +34,7 @@ risesOf top o = record {
   n4 = held top (o .o4);
 }
 
-abbrev pub fallsOf : Scaled → Four
+abbrev pub fallsOf : Scaled → ByIndex
 fallsOf o = record {
   n1 = held 65535 (pos 0 -ℤ o .o1);
   n2 = held 65535 (pos 0 -ℤ o .o2);
@@ -51,14 +51,14 @@ pub record Only (n k v r : ℕ) : Type 0 where
   pub other : (n ≡ k → ⊥) → r ≡ 0
 
 -- of four, that of index n: 0 has none
-abbrev pub picked : Four → ℕ → ℕ
+abbrev pub picked : ByIndex → ℕ → ℕ
 picked v n = getD (0 ∷ v .n1 ∷ v .n2 ∷ v .n3 ∷ v .n4 ∷ []) n 0
 
 -- the index of n among four keys, 1 to 4, or 0
-unfoldable pub indexOf : Four → ℕ → ℕ
+unfoldable pub indexOf : ByIndex → ℕ → ℕ
 indexOf keys n = cond (eqb n (keys .n1)) 1 (cond (eqb n (keys .n2)) 2 (cond (eqb n (keys .n3)) 3 (cond (eqb n (keys .n4)) 4 0)))
 
-pub record Distinct (keys : Four) : Type 0 where
+pub record Distinct (keys : ByIndex) : Type 0 where
   pub apart12 : keys .n1 ≡ keys .n2 → ⊥
   pub apart13 : keys .n1 ≡ keys .n3 → ⊥
   pub apart14 : keys .n1 ≡ keys .n4 → ⊥

@@ -5,9 +5,9 @@ use mathlib.Core.Option.{some}
 use Prim.Native.Nat.{ℕ, _+_, _-_, _/_, _%_, _^_, _≤_, _<_}
 use lib.ListN.{length, getD}
 use Rattle.standard.specs.Samples.{bandIdx, edgeIdxOf}
-use Rattle.rows.specs.declared.Four.{Four}
+use Rattle.rows.specs.declared.ByIndex.{ByIndex}
 use Rattle.rows.specs.declared.Moves.{Moves}
-use Rattle.rows.specs.Moves.{moved, Room}
+use Rattle.rows.specs.Moves.{moved}
 
 -- sample j of the part s, whose neighbours are those of the parts a and b
 abbrev pub edgeRow : Moves → List ℕ → List ℕ → List ℕ → ℕ → ℕ
@@ -27,7 +27,7 @@ abbrev pub bandOf : ℕ → ℕ → ℕ
 bandOf depth s = s / 2 ^ (depth - 5) % 32
 
 -- the four bands from the position on, modulo 32
-abbrev pub bandsFrom : ℕ → Four
+abbrev pub bandsFrom : ℕ → ByIndex
 bandsFrom position = record {
   n1 = (position + 0) % 32;
   n2 = (position + 1) % 32;

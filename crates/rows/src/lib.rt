@@ -9,6 +9,7 @@ ghost use lib.ListN.{length};
 ghost use Rattle.standard.specs.Samples.{sign, edgeIdx, edgeIdxOf};
 ghost use Rattle.planes.specs.Places.{Filled};
 ghost use Rattle.rows.specs.Moves.{scaledBy, held, risesOf, fallsOf, movesOf, Only, picked, indexOf, Distinct, moved, Room};
+ghost use Rattle.rows.specs.Categories.{Numbers};
 ghost use Rattle.rows.specs.Parts.{edgeRow, bandRow, Equal, bandOf, bandsFrom, Banded};
 
 // ---- the offsets of a block
@@ -22,7 +23,7 @@ pub struct Scaled {
 }
 
 // A number for each of the four offsets.
-pub struct Four {
+pub struct ByIndex {
     pub n1: u16,
     pub n2: u16,
     pub n3: u16,
@@ -31,8 +32,8 @@ pub struct Four {
 
 // How far each offset raises a sample, how far it lowers one, and the greatest sample.
 pub struct Moves {
-    pub rise: Four,
-    pub fall: Four,
+    pub rise: ByIndex,
+    pub fall: ByIndex,
     pub top: u16,
 }
 
@@ -78,10 +79,10 @@ fn fall(o: i16) -> u16
     hold(0 - (o as i32), 65535)
 }
 
-fn rises(o: Scaled, top: u16) -> Four
+fn rises(o: Scaled, top: u16) -> ByIndex
     ensures { λ r. ⌜ r ≡ risesOf top o ⌝ }
 {
-    Four {
+    ByIndex {
         n1: rise(o.o1, top),
         n2: rise(o.o2, top),
         n3: rise(o.o3, top),
@@ -89,10 +90,10 @@ fn rises(o: Scaled, top: u16) -> Four
     }
 }
 
-fn falls(o: Scaled) -> Four
+fn falls(o: Scaled) -> ByIndex
     ensures { λ r. ⌜ r ≡ fallsOf o ⌝ }
 {
-    Four {
+    ByIndex {
         n1: fall(o.o1),
         n2: fall(o.o2),
         n3: fall(o.o3),
@@ -137,7 +138,7 @@ fn shifted(s: u16, fall: u16, rise: u16, top: u16) -> u16
 }
 
 // Of four, that of index 1 to 4.
-fn pick(v: Four, n: u16) -> u16
+fn pick(v: ByIndex, n: u16) -> u16
     ensures { λ r. ⌜ r ≡ picked v n ⌝ }
 {
     match n {
@@ -167,7 +168,7 @@ fn only(n: u16, k: u16, v: u16) -> u16
 }
 
 // Of four, that of the index that n has among the keys.
-fn chosen(keys: Four, v: Four, n: u16) -> u16
+fn chosen(keys: ByIndex, v: ByIndex, n: u16) -> u16
     requires { ⌜ Distinct keys ⌝ }
     ensures { λ r. ⌜ r ≡ picked v (indexOf keys n) ⌝ }
 {
@@ -178,7 +179,7 @@ fn chosen(keys: Four, v: Four, n: u16) -> u16
 }
 
 // A sample moved by the offset whose key is n.
-fn move_keyed(m: Moves, keys: Four, n: u16, s: u16) -> u16
+fn move_keyed(m: Moves, keys: ByIndex, n: u16, s: u16) -> u16
     requires { ⌜ Room m × Distinct keys ⌝ }
     ensures { λ r. ⌜ r ≡ moved m (indexOf keys n) s ⌝ }
 {
@@ -200,28 +201,29 @@ fn sign_of(s: u16, a: u16) -> i16
     0
 }
 
-// The category of a sum of two signs.
+// The category numbers of the sums -2, -1, 0, 1 and 2 of two signs.
+const CATEGORIES: [u16; 5] = [1, 2, 0, 3, 4];
+
+// They are those of the definitions, and the numbers of a sum and of its negation mirror each other.
+fn categories() -> [u16; 5]
+    ensures { λ t. ⌜ Numbers t ⌝ }
+{
+    CATEGORIES
+}
+
+// The category of a sum of two signs. The places in the table are fixed, and 0 shares its arm with
+// what is no such sum: with an arm of its own a row's loop would not become vector code.
 fn category(s: i16) -> u16
     ensures { λ r. ⌜ r ≡ edgeIdx (pos 2 +ℤ s) ⌝ }
 {
+    let numbers = categories();
     match s {
-        -2 => 1,
-        -1 => 2,
-        1 => 3,
-        2 => 4,
-        _ => 0,
+        -2 => numbers[0],
+        -1 => numbers[1],
+        1 => numbers[3],
+        2 => numbers[4],
+        0 | _ => numbers[2],
     }
-}
-
-// The same numbers as a table, at the sum plus 2. Rows keep to the match, which becomes vector code.
-const CATEGORIES: [u16; 5] = [1, 2, 0, 3, 4];
-
-pub fn category_at(n: usize) -> u16
-    requires { ⌜ n < 5 ⌝ }
-    ensures { λ r. ⌜ r ≡ edgeIdx (pos n) ⌝ }
-{
-    let categories = CATEGORIES;
-    categories[n]
 }
 
 fn edge_idx(s: u16, a: u16, b: u16) -> u16
@@ -245,11 +247,11 @@ fn band_at(position: u16, j: u16) -> u16
 }
 
 // The four bands that have an offset.
-fn bands(position: u16) -> Four
+fn bands(position: u16) -> ByIndex
     requires { ⌜ position < 32 ⌝ }
     ensures { λ r. ⌜ r ≡ bandsFrom position ⌝ }
 {
-    Four {
+    ByIndex {
         n1: band_at(position, 0),
         n2: band_at(position, 1),
         n3: band_at(position, 2),
@@ -258,7 +260,7 @@ fn bands(position: u16) -> Four
 }
 
 // The band of a sample, of 32. A number beyond the depth has one as well.
-fn band(s: u16, depth: u32) -> u16
+fn band_of(s: u16, depth: u32) -> u16
     requires { ⌜ (8 ≤ depth) × (depth ≤ 16) ⌝ }
     ensures { λ r. ⌜ r ≡ bandOf depth s ⌝ }
 {
@@ -267,11 +269,11 @@ fn band(s: u16, depth: u32) -> u16
 
 // A band is compared with the four, which are made once for a row: the difference to the position
 // would cost more.
-fn band_sample(m: Moves, four: Four, depth: u32, s: u16) -> u16
+fn band_sample(m: Moves, four: ByIndex, depth: u32, s: u16) -> u16
     requires { ⌜ Room m × Distinct four × (8 ≤ depth) × (depth ≤ 16) ⌝ }
     ensures { λ r. ⌜ r ≡ moved m (indexOf four (bandOf depth s)) s ⌝ }
 {
-    move_keyed(m, four, band(s, depth), s)
+    move_keyed(m, four, band_of(s, depth), s)
 }
 
 // ---- rows

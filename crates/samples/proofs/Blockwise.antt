@@ -7,7 +7,7 @@ use native.Mathlib.Decide.{decLt}
 use native.Mathlib.Omega.{arith}
 use lib.IntN.{ℤ, pos, negsuc, natAbs, _+ℤ_}
 use Rattle.standard.specs.declared.Picture.{Picture}
-use Rattle.standard.specs.Picture.{Rules, planeWidth, planeHeight, ctbWidth, ctbHeight, columns, ctuCount, Inside, rectangle, ctbAt}
+use Rattle.standard.specs.Picture.{Rules, planeWidth, planeHeight, ctbWidth, ctbHeight, columns, ctuCount, Inside, rectangle}
 use Rattle.standard.specs.Sets.{NotNegative}
 use Rattle.standard.specs.Samples.{Step, stepsOf, inPicture}
 use Rattle.standard.proofs.Counting.{in-place}
@@ -16,13 +16,11 @@ use Rattle.standard.proofs.Grid.{ends, inside-ctb}
 use Rattle.standard.proofs.Rasters.{down, up}
 use Rattle.standard.proofs.Seeing.{Short, steps-short}
 use Rattle.samples.specs.declared.Around.{Around}
-use Rattle.samples.specs.declared.Side.{Side}
-use Rattle.samples.specs.declared.Side.the-variants.{Before, Within, After}
-use Rattle.samples.specs.Around.{sideOf, answerOf, answered, there, Agrees}
+use Rattle.samples.specs.Around.{sideOf, answered, Agrees}
 use Rattle.samples.specs.Blockwise.{blockContext, shifted, ctbOn, RightBlocks}
 use Rattle.samples.proofs.Reach.{place-across, place-down}
 use Rattle.samples.proofs.Sides.{minus-one, back-first, back-later, stay, on-last, on-earlier}
-use Rattle.samples.proofs.Picture.{inSide, side-there, both-sides}
+use Rattle.samples.proofs.Picture.{side-there, both-sides}
 
 -- ---- one side of the grid: block c, of size s, cut at n
 

@@ -9,5 +9,4 @@ pub mod Bands
 pub mod Picture
 pub mod Blockwise
 pub mod Standard
-pub mod Order
 pub mod Unique

@@ -1,7 +1,7 @@
 -- A coordinate and a step, added at 64 bits; and signed numbers handed on.
 use mathlib.Core.Path.{_≡_, refl, sym, ap, ap₂, _∙_, subst}
 use mathlib.Core.Bool.{Bool, true, false, cond}
-use Prim.Native.Nat.{ℕ, suc, _+_, _-_, _^_, _≤_, _<_}
+use Prim.Native.Nat.{ℕ, zero, suc, _+_, _-_, _^_, _≤_, _<_}
 use native.Mathlib.Omega.{arith}
 use borrow.Author.Needs.{sfits-of}
 use lib.Dec.{T, ltb}
@@ -50,9 +50,35 @@ module _ (v : ℕ) (d : ℤ) (hv : v ≤ 8192) (hd : SFits w32 d) where
 
 -- ---- a signed number that is a field is read back as it was stored
 
+pub field-back : (d : ℤ) → mag d < 2 ^ 31 → toZ w32 (ofZ w32 d) ≡ d
+field-back d h = toZ-ofZ (sfits-of {w = w32} {z = d} h)
+
 pub step-back : (v : ℕ) (d : ℤ) → mag d < 2 ^ 31 → natAbs (pos v +ℤ toZ w32 (ofZ w32 d)) ≡ natAbs (pos v +ℤ d)
-step-back v d h = ap (λ (z : ℤ). natAbs (pos v +ℤ z)) (toZ-ofZ (sfits-of {w = w32} {z = d} h))
+step-back v d h = ap (λ (z : ℤ). natAbs (pos v +ℤ z)) (field-back d h)
 
 pub offsets-back : (shift : ℕ) {o1 o2 o3 o4 : ℤ} → SFits w8 o1 → SFits w8 o2 → SFits w8 o3 → SFits w8 o4
     → scaledBy shift (toZ w8 (ofZ w8 o1)) (toZ w8 (ofZ w8 o2)) (toZ w8 (ofZ w8 o3)) (toZ w8 (ofZ w8 o4)) ≡ scaledBy shift o1 o2 o3 o4
 offsets-back shift a b c d = λ i. scaledBy shift (toZ-ofZ a i) (toZ-ofZ b i) (toZ-ofZ c i) (toZ-ofZ d i)
+
+-- ---- a step by one at most is known by its bits
+
+pub one-back : (d : ℤ) → natAbs d ≤ 1 → ofZ w32 d ≡ 4294967295 → d ≡ negsuc 0
+one-back (pos zero) h e = absurd (omega arith)
+one-back (pos (suc zero)) h e = absurd (omega arith)
+one-back (pos (suc (suc n))) h e = absurd (omega arith)
+one-back (negsuc zero) h e = refl
+one-back (negsuc (suc n)) h e = absurd (omega arith)
+
+pub none-away : (d : ℤ) → natAbs d ≤ 1 → ofZ w32 d ≡ 0 → d ≡ pos 0
+none-away (pos zero) h e = refl
+none-away (pos (suc zero)) h e = absurd (omega arith)
+none-away (pos (suc (suc n))) h e = absurd (omega arith)
+none-away (negsuc zero) h e = absurd (omega arith)
+none-away (negsuc (suc n)) h e = absurd (omega arith)
+
+pub one-on : (d : ℤ) → natAbs d ≤ 1 → (ofZ w32 d ≡ 4294967295 → ⊥) → (ofZ w32 d ≡ 0 → ⊥) → d ≡ pos 1
+one-on (pos zero) h a b = absurd (b refl)
+one-on (pos (suc zero)) h a b = refl
+one-on (pos (suc (suc n))) h a b = absurd (omega arith)
+one-on (negsuc zero) h a b = absurd (a refl)
+one-on (negsuc (suc n)) h a b = absurd (omega arith)

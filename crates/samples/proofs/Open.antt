@@ -4,16 +4,16 @@ use mathlib.Core.Bool.{Bool, true, false, cond, _&&_}
 use mathlib.Core.List.{List}
 use mathlib.Core.Logic.{_⊎_, inl, inr}
 use mathlib.Core.Option.{Option, some, none}
-use Prim.Native.Nat.{ℕ, _+_, _≤_, _<_}
+use Prim.Native.Nat.{ℕ, _≤_, _<_}
 use native.Mathlib.Omega.{arith}
-use lib.IntN.{ℤ, pos, natAbs, _+ℤ_}
+use lib.IntN.{ℤ, pos, _+ℤ_}
 use Rattle.standard.specs.declared.Layout.{Layout}
 use Rattle.standard.specs.declared.Rectangle.{Rectangle}
 use Rattle.standard.specs.Picture.{Inside}
 use Rattle.standard.specs.Calls.{Written}
-use Rattle.standard.specs.Samples.{Context, Step, stepsOf, at, neighbour, edgeIdxOf}
+use Rattle.standard.specs.Samples.{Context, inPicture, Step, at, neighbour, edgeIdxOf}
 use Rattle.standard.proofs.Counting as counting
-use Rattle.standard.proofs.Counting.{Place, both-true}
+use Rattle.standard.proofs.Counting.{Place, place-in, both-true}
 use Rattle.planes.specs.Places.{block}
 use Rattle.planes.proofs.Blocks.{same-samples}
 use Rattle.rows.specs.declared.Moves.{Moves}
@@ -21,17 +21,19 @@ use Rattle.rows.specs.Moves.{moved}
 use Rattle.samples.specs.declared.Around.{Around}
 use Rattle.samples.specs.declared.Runs.{Runs}
 use Rattle.samples.specs.declared.Three.{Three}
-use Rattle.samples.specs.declared.Side.{Side}
 use Rattle.samples.specs.declared.Side.the-variants.{Before, Within, After}
 use Rattle.samples.specs.Steps.{Reach}
-use Rattle.samples.specs.Around.{rowOf, answerOf, answered, isOpen, contextFrom, Agrees, Reaches, AllOf, AllOpen, Alike, Parted}
-use Rattle.samples.specs.Blocks.{Under, byEdge, beside, compared, edgeIf}
+use Rattle.samples.specs.Around.{rowOf, answerOf, answered, isOpen, contextFrom, Agrees, Reaches, ReachesBy, AllOf, AllOpen, Alike, Parted}
+use Rattle.samples.specs.Blocks.{Under, byEdge, beside, edgeIf}
+
+place-is : {w h : ℕ} {u v : ℤ} → Place w h u v → inPicture w h u v ≡ true
+place-is {w} {h} p = subst₂ (λ (a b : ℤ). inPicture w h a b ≡ true) (sym (p .2 .0)) (sym (p .2 .1)) (place-in w h _ _ (p .0) (p .1))
 
 -- answers that agree with a context reach no further than it does
 pub agrees-reaches : (l : Layout) {context : Context} {r : Rectangle} {o : Around} → counting.Within l context → Agrees context r o → Reaches l r o
 agrees-reaches l w g x y i class h =
     let k = g .counts x y i class h in
-    (λ e. w x y _ _ (k .0 ∙ e), λ e. w x y _ _ (k .1 ∙ e))
+    (λ e. place-is (w x y _ _ (k .0 ∙ e)), λ e. place-is (w x y _ _ (k .1 ∙ e)))
 
 either-false : (a b : Bool) → (a && b) ≡ false → (a ≡ false) ⊎ (b ≡ false)
 either-false true b e = inr e
@@ -68,37 +70,37 @@ module _ (l : Layout) (context : Context) (plane : List ℕ) (x y : ℕ) where
   barred-either s u (inr e) = inr (barred u e)
 
   -- another context that says the same of both neighbours
-  pub same-context : (other : Context) (m : Moves) (class : ℕ)
-      → (context .counts x y (pos x +ℤ stepsOf class .0 .h) (pos y +ℤ stepsOf class .0 .v) ≡ other .counts x y (pos x +ℤ stepsOf class .0 .h) (pos y +ℤ stepsOf class .0 .v))
-      → (context .counts x y (pos x +ℤ stepsOf class .1 .h) (pos y +ℤ stepsOf class .1 .v) ≡ other .counts x y (pos x +ℤ stepsOf class .1 .h) (pos y +ℤ stepsOf class .1 .v))
-      → byEdge l context m class plane x y ≡ byEdge l other m class plane x y
+  pub same-context : (other : Context) (m : Moves) (a b : Step)
+      → (context .counts x y (pos x +ℤ a .h) (pos y +ℤ a .v) ≡ other .counts x y (pos x +ℤ a .h) (pos y +ℤ a .v))
+      → (context .counts x y (pos x +ℤ b .h) (pos y +ℤ b .v) ≡ other .counts x y (pos x +ℤ b .h) (pos y +ℤ b .v))
+      → byEdge l context m a b plane x y ≡ byEdge l other m a b plane x y
   unfolding neighbour
-  same-context other m class e f = λ i.
+  same-context other m a b e f = λ i.
       moved m
-      (edgeIdxOf (at plane (l .width) x y) (cond (e i) (some (beside l plane x y (stepsOf class .0))) none) (cond (f i) (some (beside l plane x y (stepsOf class .1))) none))
+      (edgeIdxOf (at plane (l .width) x y) (cond (e i) (some (beside l plane x y a)) none) (cond (f i) (some (beside l plane x y b)) none))
       (at plane (l .width) x y)
 
-module _ (l : Layout) (m : Moves) (o : Around) (r : Rectangle) (class : ℕ) (plane : List ℕ) where
-  pub by-open : (x y : ℕ) (t : Bool) → isOpen o r class x y ≡ t → at plane (l .width) x y ≤ m .top
-      → edgeIf t l m (stepsOf class .0) (stepsOf class .1) plane x y ≡ byEdge l (contextFrom r o) m class plane x y
+module _ (l : Layout) (m : Moves) (o : Around) (r : Rectangle) (a b : Step) (plane : List ℕ) where
+  pub by-open : (x y : ℕ) (t : Bool) → isOpen o r a b x y ≡ t → at plane (l .width) x y ≤ m .top
+      → edgeIf t l m a b plane x y ≡ byEdge l (contextFrom r o) m a b plane x y
   unfolding isOpen
   by-open x y true e h =
       let k = both-true _ _ e in
       let c = contextFrom r o in
       sym (ap₂ (λ (s t : Option ℕ). moved m (edgeIdxOf (at plane (l .width) x y) s t) (at plane (l .width) x y)) (counted l c plane x y _ (k .0)) (counted l c plane x y _ (k .1)))
   by-open x y false e h =
-      let k = barred-either l (contextFrom r o) plane x y (stepsOf class .0) (stepsOf class .1) (either-false _ _ e) in
+      let k = barred-either l (contextFrom r o) plane x y a b (either-false _ _ e) in
       unmoved m _ h ∙ sym (ap (λ (n : ℕ). moved m n (at plane (l .width) x y)) (zero-at _ _ _ k))
 
-pub both-open : (o : Around) (r : Rectangle) (class x y : ℕ) → isOpen o r class x y ≡ true
-    → (answered o r (pos x +ℤ stepsOf class .0 .h) (pos y +ℤ stepsOf class .0 .v) ≡ true) × (answered o r (pos x +ℤ stepsOf class .1 .h) (pos y +ℤ stepsOf class .1 .v) ≡ true)
+pub both-open : (o : Around) (r : Rectangle) (a b : Step) (x y : ℕ) → isOpen o r a b x y ≡ true
+    → (answered o r (pos x +ℤ a .h) (pos y +ℤ a .v) ≡ true) × (answered o r (pos x +ℤ b .h) (pos y +ℤ b .v) ≡ true)
 unfolding isOpen
-both-open o r class x y e = both-true _ _ e
+both-open o r a b x y e = both-true _ _ e
 
 -- ---- a part p of r, open or not
 
-abbrev pub Part : Around → Rectangle → ℕ → Rectangle → Bool → Type 0
-Part o r class p t = (x y : ℕ) → Inside p x y → Inside r x y × (isOpen o r class x y ≡ t)
+abbrev pub Part : Around → Rectangle → Step → Step → Rectangle → Bool → Type 0
+Part o r a b p t = (x y : ℕ) → Inside p x y → Inside r x y × (isOpen o r a b x y ≡ t)
 
 pub three-open : (t : Three) → t .before ≡ true → t .within ≡ true → t .after ≡ true → AllOf t
 three-open t a b c Before = a
@@ -111,40 +113,37 @@ rows-open o a b c across Before = a across
 rows-open o a b c across Within = b across
 rows-open o a b c across After = c across
 
-pub all-open : (o : Around) (r : Rectangle) (class : ℕ) → AllOpen o → Part o r class r true
+pub all-open : (o : Around) (r : Rectangle) (a b : Step) → AllOpen o → Part o r a b r true
 unfolding isOpen answered
-all-open o r class h x y i = (i, ap₂ (λ (s t : Bool). s && t) (h _ _) (h _ _))
+all-open o r a b h x y i = (i, ap₂ (λ (s t : Bool). s && t) (h _ _) (h _ _))
 
-module _ (l : Layout) (o : Around) (r : Rectangle) (class : ℕ) (p : Rectangle) (t : Bool) (a b : Step) (part : Part o r class p t) (ea : a ≡ stepsOf class .0)
-    (eb : b ≡ stepsOf class .1) where
-  pub part-reach : class < 4 → Reaches l r o → t ≡ true → Reach l a p × Reach l b p
-  part-reach h reaches e = (
-    subst (λ (s : Step). Reach l s p) (sym ea) (λ x y i. let k = part x y i in reaches x y (k .0) class h .0 (both-open o r class x y (k .1 ∙ e) .0)),
-    subst (λ (s : Step). Reach l s p) (sym eb) (λ x y i. let k = part x y i in reaches x y (k .0) class h .1 (both-open o r class x y (k .1 ∙ e) .1)),
+module _ (l : Layout) (o : Around) (r : Rectangle) (a b : Step) (p : Rectangle) (t : Bool) (part : Part o r a b p t) where
+  pub part-reach : ReachesBy l r o a → ReachesBy l r o b → t ≡ true → Reach l a p × Reach l b p
+  part-reach ra rb e = (
+    λ x y i. let k = part x y i in ra x y (k .0) (both-open o r a b x y (k .1 ∙ e) .0),
+    λ x y i. let k = part x y i in rb x y (k .0) (both-open o r a b x y (k .1 ∙ e) .1),
   )
 
   pub part-is : (m : Moves) (plane : List ℕ) {before after : List ℕ} → Under l m r plane
-      → Written (l .width) (l .height) p (edgeIf t l m a b plane) before after → Written (l .width) (l .height) p (byEdge l (contextFrom r o) m class plane) before after
-  part-is m plane {before} {after} under w =
-      same-samples (λ x y u v i. let k = part x y i in by-open l m o r class plane x y t (k .1) (under x y (k .0)))
-      (subst₂ (λ (s u : Step). Written (l .width) (l .height) p (edgeIf t l m s u plane) before after) ea eb w)
+      → Written (l .width) (l .height) p (edgeIf t l m a b plane) before after → Written (l .width) (l .height) p (byEdge l (contextFrom r o) m a b plane) before after
+  part-is m plane under w = same-samples (λ x y u v i. let k = part x y i in by-open l m o r a b plane x y t (k .1) (under x y (k .0))) w
 
 -- ---- the three parts of rows that are open alike
 
-module _ (o : Around) (r : Rectangle) (class y0 y1 : ℕ) (top : r .y0 ≤ y0) (bottom : y1 ≤ r .y1) (alike : Alike o r class y0 y1) (k : Runs)
-    (parted : Parted (λ x. isOpen o r class x y0) (r .x0) (r .x1) k) where
+module _ (o : Around) (r : Rectangle) (s t : Step) (y0 y1 : ℕ) (top : r .y0 ≤ y0) (bottom : y1 ≤ r .y1) (alike : Alike o r s t y0 y1) (k : Runs)
+    (parted : Parted (λ x. isOpen o r s t x y0) (r .x0) (r .x1) k) where
   -- the part from column a up to and without b
-  a-part : (a b : ℕ) (t : Bool) → r .x0 ≤ a → b ≤ r .x1 → ((x : ℕ) → a ≤ x → x < b → isOpen o r class x y0 ≡ t) → Part o r class (block a b y0 y1) t
-  a-part a b t h g same x y i =
+  a-part : (a b : ℕ) (q : Bool) → r .x0 ≤ a → b ≤ r .x1 → ((x : ℕ) → a ≤ x → x < b → isOpen o r s t x y0 ≡ q) → Part o r s t (block a b y0 y1) q
+  a-part a b q h g same x y i =
       (((omega (arith, i .0 .0), omega (arith, i .0 .1)), (omega (arith, i .1 .0), omega (arith, i .1 .1))), alike x y (i .1 .0) (i .1 .1) ∙ same x (i .0 .0) (i .0 .1))
 
-  pub first-part : Part o r class (block (r .x0) (k .c) y0 y1) (k .first)
+  pub first-part : Part o r s t (block (r .x0) (k .c) y0 y1) (k .first)
   first-part = a-part (r .x0) (k .c) (k .first) (omega arith) (omega (arith, parted .order, parted .off)) (parted .first)
 
-  pub middle-part : Part o r class (block (k .c) (k .d) y0 y1) (k .middle)
+  pub middle-part : Part o r s t (block (k .c) (k .d) y0 y1) (k .middle)
   middle-part = a-part (k .c) (k .d) (k .middle) (parted .on) (parted .off) (parted .middle)
 
-  pub last-part : Part o r class (block (k .d) (r .x1) y0 y1) (k .last)
+  pub last-part : Part o r s t (block (k .d) (r .x1) y0 y1) (k .last)
   last-part = a-part (k .d) (r .x1) (k .last) (omega (arith, parted .on, parted .order)) (omega arith) (parted .last)
 
 -- the same answer by another name

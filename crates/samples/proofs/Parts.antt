@@ -1,11 +1,10 @@
 -- A side in three parts: its first, those between and its last, each joined to those between where it is like them.
-use mathlib.Core.Path.{_≡_, refl, sym, ap, _∙_}
+use mathlib.Core.Path.{_≡_, sym, ap, _∙_}
 use mathlib.Core.Bool.{Bool}
-use mathlib.Core.Logic.{_⊎_, inl, inr}
+use mathlib.Core.Logic.{inl, inr}
 use Prim.Native.Nat.{ℕ, _+_, _-_, _≤_, _<_, min}
 use native.Mathlib.Decide.{decLt}
 use native.Mathlib.Omega.{arith}
-use Rattle.samples.specs.declared.Runs.{Runs}
 use Rattle.samples.specs.Around.{Differ, Parted}
 
 pub differ-small : {p q : Bool} {n : ℕ} → Differ p q n → n ≤ 1

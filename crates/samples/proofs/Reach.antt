@@ -1,8 +1,9 @@
 -- Neighbours in the picture: where a step leads from each sample of a row, and that a part of the plane holds the samples there.
-use mathlib.Core.Path.{_≡_, refl, sym, ap, ap₂, _∙_, subst}
+use mathlib.Core.Path.{_≡_, refl, sym, ap, _∙_, subst}
+use mathlib.Core.Bool.{true}
 use mathlib.Core.List.{List}
-use mathlib.Core.Option.{Option, some}
-use Prim.Native.Nat.{ℕ, zero, suc, _+_, _-_, _*_, _≤_, _<_}
+use mathlib.Core.Option.{some}
+use Prim.Native.Nat.{ℕ, _+_, _-_, _*_, _≤_, _<_}
 use native.Mathlib.Omega.{arith}
 use borrow.Rule.Slice.PartMut.{midOf}
 use lib.IntN.{ℤ, pos, negsuc, natAbs, _+ℤ_, +ℤ-assoc, +ℤ-comm}
@@ -10,8 +11,8 @@ use lib.ListN.{length, getD}
 use Rattle.standard.specs.declared.Layout.{Layout}
 use Rattle.standard.specs.declared.Rectangle.{Rectangle}
 use Rattle.standard.specs.Sets.{NotNegative}
-use Rattle.standard.specs.Samples.{Step, at}
-use Rattle.standard.proofs.Counting.{Place}
+use Rattle.standard.specs.Samples.{Step, at, inPicture}
+use Rattle.standard.proofs.Counting.{Place, in-place}
 use Rattle.planes.specs.Places.{row}
 use Rattle.planes.proofs.Blocks.{part-get, part-fits}
 use Rattle.samples.specs.Steps.{Reach}
@@ -45,8 +46,11 @@ module _ (l : Layout) (step : Step) (x0 x1 y : ℕ) (some-columns : x0 < x1) (re
   abbrev pub line : ℕ
   line = natAbs (pos y +ℤ step .v)
 
-  pub start-place : Place (l .width) (l .height) (pos x0 +ℤ step .h) (pos y +ℤ step .v)
-  start-place = reach x0 y ((omega arith, some-columns), (omega arith, omega arith))
+  pub start-in : inPicture (l .width) (l .height) (pos x0 +ℤ step .h) (pos y +ℤ step .v) ≡ true
+  start-in = reach x0 y ((omega arith, some-columns), (omega arith, omega arith))
+
+  start-place : Place (l .width) (l .height) (pos x0 +ℤ step .h) (pos y +ℤ step .v)
+  start-place = in-place (l .width) (l .height) _ _ start-in
 
   pub row-in : line < l .height
   row-in = start-place .1
@@ -57,7 +61,7 @@ module _ (l : Layout) (step : Step) (x0 x1 y : ℕ) (some-columns : x0 < x1) (re
   pub columns-in : column + (x1 - x0) ≤ l .width
   columns-in =
       let j = x1 - x0 - 1 in
-      let p = reach (x0 + j) y ((omega arith, omega arith), (omega arith, omega arith)) in
+      let p = in-place (l .width) (l .height) _ _ (reach (x0 + j) y ((omega arith, omega arith), (omega arith, omega arith))) in
       omega (arith, p .0, column-at j)
 
   -- sample j of the part that starts there

@@ -6,11 +6,11 @@ use native.Mathlib.Omega.{arith}
 use borrow.Author.Tests.{lt-ltb, le-ltb}
 use lib.IntN.{ℤ, pos, negsuc, natAbs, _+ℤ_}
 use Rattle.standard.specs.declared.Rectangle.{Rectangle}
-use Rattle.standard.specs.Samples.{Step, stepsOf}
-use Rattle.standard.proofs.Seeing.{Short, steps-short}
+use Rattle.standard.specs.Samples.{Step}
 use Rattle.samples.specs.declared.Around.{Around}
 use Rattle.samples.specs.declared.Side.{Side}
 use Rattle.samples.specs.declared.Side.the-variants.{Before, Within, After}
+use Rattle.samples.specs.Steps.{ByOne}
 use Rattle.samples.specs.Around.{sideOf, answerOf, answered, isOpen}
 
 before-is : (a b n : ℕ) → n < a → sideOf a b (pos n) ≡ Before
@@ -46,13 +46,17 @@ on-last a b x h k = after-is a b (x + 1) (omega arith) (omega arith)
 pub on-earlier : (a b x : ℕ) → a ≤ x → x + 1 < b → sideOf a b (pos x +ℤ pos 1) ≡ Within
 on-earlier a b x h k = within-is a b (x + 1) (omega arith) k
 
--- both neighbours, by their sides
-pub open-by : (o : Around) (r : Rectangle) (class x y : ℕ) {h1 v1 h2 v2 : Side}
-    → h1 ≡ sideOf (r .x0) (r .x1) (pos x +ℤ stepsOf class .0 .h) → v1 ≡ sideOf (r .y0) (r .y1) (pos y +ℤ stepsOf class .0 .v)
-    → h2 ≡ sideOf (r .x0) (r .x1) (pos x +ℤ stepsOf class .1 .h) → v2 ≡ sideOf (r .y0) (r .y1) (pos y +ℤ stepsOf class .1 .v)
-    → (answerOf o h1 v1 && answerOf o h2 v2) ≡ isOpen o r class x y
-unfolding isOpen answered
-open-by o r class x y a b c d = λ i. answerOf o (a i) (b i) && answerOf o (c i) (d i)
+-- a neighbour, by its sides
+pub free-by : (o : Around) (r : Rectangle) {t : Bool} {across down : Side} (u v : ℤ) → t ≡ answerOf o across down → across ≡ sideOf (r .x0) (r .x1) u → down ≡ sideOf (r .y0) (r .y1) v
+    → t ≡ answered o r u v
+unfolding answered
+free-by o r u v e a d = e ∙ ap₂ (answerOf o) a d
+
+-- and both
+pub open-by : (o : Around) (r : Rectangle) (a b : Step) (x y : ℕ) {t p q : Bool} → t ≡ (p && q) → p ≡ answered o r (pos x +ℤ a .h) (pos y +ℤ a .v)
+    → q ≡ answered o r (pos x +ℤ b .h) (pos y +ℤ b .v) → t ≡ isOpen o r a b x y
+unfolding isOpen
+open-by o r a b x y e f g = e ∙ ap₂ (λ (s t : Bool). s && t) f g
 
 -- ---- between the ends
 
@@ -61,28 +65,28 @@ between a b x (pos n) s h k = within-is a b (x + n) (omega arith) (omega arith)
 between a b x (negsuc zero) s h k = back-later a b x h (omega arith)
 between a b x (negsuc (suc n)) s h k = absurd (omega arith)
 
-module _ (o : Around) (r : Rectangle) (class : ℕ) where
-  rows-same : (x y y′ : ℕ) → r .y0 < y → y + 1 < r .y1 → r .y0 < y′ → y′ + 1 < r .y1 → (s : Step) → Short s
+module _ (o : Around) (r : Rectangle) (a b : Step) (sa : ByOne a) (sb : ByOne b) where
+  rows-same : (x y y′ : ℕ) → r .y0 < y → y + 1 < r .y1 → r .y0 < y′ → y′ + 1 < r .y1 → (s : Step) → ByOne s
       → answered o r (pos x +ℤ s .h) (pos y +ℤ s .v) ≡ answered o r (pos x +ℤ s .h) (pos y′ +ℤ s .v)
   unfolding answered
-  rows-same x y y′ a b c d s k =
+  rows-same x y y′ f g h i s k =
       ap (answerOf o (sideOf (r .x0) (r .x1) (pos x +ℤ s .h)))
-      (between (r .y0) (r .y1) y (s .v) (k .down) a b ∙ sym (between (r .y0) (r .y1) y′ (s .v) (k .down) c d))
+      (between (r .y0) (r .y1) y (s .v) (k .down) f g ∙ sym (between (r .y0) (r .y1) y′ (s .v) (k .down) h i))
 
-  columns-same : (x x′ y : ℕ) → r .x0 < x → x + 1 < r .x1 → r .x0 < x′ → x′ + 1 < r .x1 → (s : Step) → Short s
+  columns-same : (x x′ y : ℕ) → r .x0 < x → x + 1 < r .x1 → r .x0 < x′ → x′ + 1 < r .x1 → (s : Step) → ByOne s
       → answered o r (pos x +ℤ s .h) (pos y +ℤ s .v) ≡ answered o r (pos x′ +ℤ s .h) (pos y +ℤ s .v)
   unfolding answered
-  columns-same x x′ y a b c d s k =
+  columns-same x x′ y f g h i s k =
       ap (λ (t : Side). answerOf o t (sideOf (r .y0) (r .y1) (pos y +ℤ s .v)))
-      (between (r .x0) (r .x1) x (s .h) (k .across) a b ∙ sym (between (r .x0) (r .x1) x′ (s .h) (k .across) c d))
+      (between (r .x0) (r .x1) x (s .h) (k .across) f g ∙ sym (between (r .x0) (r .x1) x′ (s .h) (k .across) h i))
 
   -- the rows between the first and the last are open alike, and so are the columns
-  pub open-rows : (x y y′ : ℕ) → r .y0 < y → y + 1 < r .y1 → r .y0 < y′ → y′ + 1 < r .y1 → isOpen o r class x y ≡ isOpen o r class x y′
+  pub open-rows : (x y y′ : ℕ) → r .y0 < y → y + 1 < r .y1 → r .y0 < y′ → y′ + 1 < r .y1 → isOpen o r a b x y ≡ isOpen o r a b x y′
   unfolding isOpen
-  open-rows x y y′ a b c d =
-      ap₂ (λ (s t : Bool). s && t) (rows-same x y y′ a b c d _ (steps-short class .0)) (rows-same x y y′ a b c d _ (steps-short class .1))
+  open-rows x y y′ f g h i =
+      ap₂ (λ (s t : Bool). s && t) (rows-same x y y′ f g h i _ sa) (rows-same x y y′ f g h i _ sb)
 
-  pub open-columns : (x x′ y : ℕ) → r .x0 < x → x + 1 < r .x1 → r .x0 < x′ → x′ + 1 < r .x1 → isOpen o r class x y ≡ isOpen o r class x′ y
+  pub open-columns : (x x′ y : ℕ) → r .x0 < x → x + 1 < r .x1 → r .x0 < x′ → x′ + 1 < r .x1 → isOpen o r a b x y ≡ isOpen o r a b x′ y
   unfolding isOpen
-  open-columns x x′ y a b c d =
-      ap₂ (λ (s t : Bool). s && t) (columns-same x x′ y a b c d _ (steps-short class .0)) (columns-same x x′ y a b c d _ (steps-short class .1))
+  open-columns x x′ y f g h i =
+      ap₂ (λ (s t : Bool). s && t) (columns-same x x′ y f g h i _ sa) (columns-same x x′ y f g h i _ sb)

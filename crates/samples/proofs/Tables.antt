@@ -7,7 +7,7 @@ use lib.IntN.{ℤ, pos, negsuc}
 use Rattle.standard.specs.Samples.{stepsOf}
 use Rattle.standard.proofs.Tables.{negated, steps-negate}
 use Rattle.samples.specs.declared.Step.{Step}
-use Rattle.samples.specs.Steps.{stepTo, entryOf}
+use Rattle.samples.specs.Steps.{stepTo, entryOf, Steps}
 
 abbrev step : ℤ → ℤ → Step
 step a b = record { dx = a; dy = b }
@@ -31,3 +31,11 @@ table-is (suc (suc (suc (suc c)))) h = absurd (omega arith)
 
 pub table-negates : (class : ℕ) → class < 4 → stepTo (entryOf table class 1) ≡ negated (stepTo (entryOf table class 0))
 table-negates class h = table-is class h .1 ∙ steps-negate class ∙ sym (ap negated (table-is class h .0))
+
+-- an entry of such a table, at the place that a class has by another name
+module _ {t : List (List Step)} (steps : Steps t) (k : ℕ) (h : k < 4) {s : Step} {class : ℕ} (e : class ≡ k) where
+  pub first-of : s ≡ entryOf t k 0 → stepTo s ≡ stepsOf class .0
+  first-of f = ap stepTo f ∙ steps .first k h ∙ sym (ap (λ (n : ℕ). stepsOf n .0) e)
+
+  pub second-of : s ≡ entryOf t k 1 → stepTo s ≡ stepsOf class .1
+  second-of f = ap stepTo f ∙ steps .second k h ∙ sym (ap (λ (n : ℕ). stepsOf n .1) e)

@@ -2,14 +2,13 @@
 use mathlib.Core.Path.{_≡_}
 use mathlib.Core.Bool.{Bool, true, false, cond, _&&_}
 use mathlib.Core.Logic.{_⊎_}
-use Prim.Native.Nat.{ℕ, _+_, _≤_, _<_}
+use Prim.Native.Nat.{ℕ, _≤_, _<_}
 use lib.Dec.{ltb}
 use lib.IntN.{ℤ, pos, negsuc, _+ℤ_}
 use Rattle.standard.specs.declared.Rectangle.{Rectangle}
 use Rattle.standard.specs.declared.Layout.{Layout}
 use Rattle.standard.specs.Picture.{Inside}
 use Rattle.standard.specs.Samples.{Context, inPicture, Step, stepsOf}
-use Rattle.standard.proofs.Counting.{Place}
 use Rattle.samples.specs.declared.Around.{Around}
 use Rattle.samples.specs.declared.Runs.{Runs}
 use Rattle.samples.specs.declared.Three.{Three}
@@ -43,10 +42,9 @@ answered o r u v = answerOf o (sideOf (r .x0) (r .x1) u) (sideOf (r .y0) (r .y1)
 abbrev pub contextFrom : Rectangle → Around → Context
 contextFrom r o = record { counts = λ x y u v. answered o r u v; kept = λ x y. false }
 
--- whether both neighbours of column x of row y of r may be compared with it
-unfoldable pub isOpen : Around → Rectangle → ℕ → ℕ → ℕ → Bool
-isOpen o r class x y =
-    answered o r (pos x +ℤ stepsOf class .0 .h) (pos y +ℤ stepsOf class .0 .v) && answered o r (pos x +ℤ stepsOf class .1 .h) (pos y +ℤ stepsOf class .1 .v)
+-- whether both neighbours of column x of row y of r, the steps a and b away, may be compared with it
+unfoldable pub isOpen : Around → Rectangle → Step → Step → ℕ → ℕ → Bool
+isOpen o r a b x y = answered o r (pos x +ℤ a .h) (pos y +ℤ a .v) && answered o r (pos x +ℤ b .h) (pos y +ℤ b .v)
 
 -- P of both steps of each class
 abbrev pub EachStep : (Step → Type 0) → Type 0
@@ -88,7 +86,12 @@ pictureAround l r =
 abbrev pub Reaches : Layout → Rectangle → Around → Type 0
 Reaches l r o =
     (x y : ℕ) → Inside r x y
-    → EachStep (λ s. answered o r (pos x +ℤ s .h) (pos y +ℤ s .v) ≡ true → Place (l .width) (l .height) (pos x +ℤ s .h) (pos y +ℤ s .v))
+    → EachStep (λ s. answered o r (pos x +ℤ s .h) (pos y +ℤ s .v) ≡ true → inPicture (l .width) (l .height) (pos x +ℤ s .h) (pos y +ℤ s .v) ≡ true)
+
+-- and of one step
+abbrev pub ReachesBy : Layout → Rectangle → Around → Step → Type 0
+ReachesBy l r o s =
+    (x y : ℕ) → Inside r x y → answered o r (pos x +ℤ s .h) (pos y +ℤ s .v) ≡ true → inPicture (l .width) (l .height) (pos x +ℤ s .h) (pos y +ℤ s .v) ≡ true
 
 -- what may be compared by the answers p may be compared by o
 abbrev pub NoMore : Around → Around → Type 0
@@ -104,8 +107,8 @@ abbrev pub AllOpen : Around → Type 0
 AllOpen o = (across down : Side) → answerOf o across down ≡ true
 
 -- rows y0 up to and without y1 are open at the same columns
-abbrev pub Alike : Around → Rectangle → ℕ → ℕ → ℕ → Type 0
-Alike o r class y0 y1 = (x y : ℕ) → y0 ≤ y → y < y1 → isOpen o r class x y ≡ isOpen o r class x y0
+abbrev pub Alike : Around → Rectangle → Step → Step → ℕ → ℕ → Type 0
+Alike o r a b y0 y1 = (x y : ℕ) → y0 ≤ y → y < y1 → isOpen o r a b x y ≡ isOpen o r a b x y0
 
 abbrev pub Differ : Bool → Bool → ℕ → Type 0
 Differ p q n = ((p ≡ q) × (n ≡ 0)) ⊎ ((¬ (p ≡ q)) × (n ≡ 1))

@@ -11,11 +11,12 @@ use Rattle.standard.specs.declared.Offsets.{Offsets}
 use Rattle.standard.specs.declared.Offsets.the-variants.{Off, Band, Edge}
 use Rattle.standard.specs.declared.Rectangle.{Rectangle}
 use Rattle.standard.specs.Picture.{Inside}
-use Rattle.standard.specs.Samples.{Step, stepsOf, Context, at, bandIdx, edgeIdxOf, neighbour}
+use Rattle.standard.specs.Samples.{Step, Context, at, bandIdx, edgeIdxOf, neighbour}
 use Rattle.rows.specs.declared.Moves.{Moves}
 use Rattle.rows.specs.Moves.{moved, Room}
 use Rattle.samples.specs.declared.Around.{Around}
-use Rattle.samples.specs.Around.{Reaches}
+use Rattle.samples.specs.Steps.{ByOne}
+use Rattle.samples.specs.Around.{Reaches, ReachesBy}
 
 -- two planes of a layout, and a rectangle in them
 pub record Lent (l : Layout) (r : Rectangle) (plane out : List ℕ) : Type 0 where
@@ -55,9 +56,9 @@ Under l m r plane = (x y : ℕ) → Inside r x y → at plane (l .width) x y ≤
 abbrev pub byBand : Layout → Moves → ℕ → List ℕ → ℕ → ℕ → ℕ
 byBand l m position plane x y = moved m (bandIdx (l .depth) position (at plane (l .width) x y)) (at plane (l .width) x y)
 
-abbrev pub byEdge : Layout → Context → Moves → ℕ → List ℕ → ℕ → ℕ → ℕ
-byEdge l context m class plane x y =
-    moved m (edgeIdxOf (at plane (l .width) x y) (neighbour l context plane x y (stepsOf class .0)) (neighbour l context plane x y (stepsOf class .1))) (at plane (l .width) x y)
+abbrev pub byEdge : Layout → Context → Moves → Step → Step → List ℕ → ℕ → ℕ → ℕ
+byEdge l context m a b plane x y =
+    moved m (edgeIdxOf (at plane (l .width) x y) (neighbour l context plane x y a) (neighbour l context plane x y b)) (at plane (l .width) x y)
 
 -- the sample a step away
 abbrev pub beside : Layout → List ℕ → ℕ → ℕ → Step → ℕ
@@ -72,12 +73,14 @@ abbrev pub edgeIf : Bool → Layout → Moves → Step → Step → List ℕ →
 edgeIf true l m a b plane x y = compared l m a b plane x y
 edgeIf false l m a b plane x y = at plane (l .width) x y
 
--- what the filter of a block by edge takes
-pub record EdgeReady (l : Layout) (m : Moves) (class : ℕ) (o : Around) (r : Rectangle) (plane out : List ℕ) : Type 0 where
+-- what the filter of a block by edge takes, whose neighbours are the steps a and b away
+pub record EdgeReady (l : Layout) (m : Moves) (a b : Step) (o : Around) (r : Rectangle) (plane out : List ℕ) : Type 0 where
   pub lent : Lent l r plane out
   pub some-columns : r .x0 < r .x1
   pub some-rows : r .y0 < r .y1
-  pub class-legal : class < 4
+  pub first-by-one : ByOne a
+  pub second-by-one : ByOne b
   pub room : Room m
   pub under : Under l m r plane
-  pub reaches : Reaches l r o
+  pub first-reaches : ReachesBy l r o a
+  pub second-reaches : ReachesBy l r o b

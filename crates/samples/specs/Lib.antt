@@ -2,4 +2,3 @@ pub mod Steps
 pub mod Around
 pub mod Blockwise
 pub mod Blocks
-pub mod Order

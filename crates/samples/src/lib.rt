@@ -1,6 +1,7 @@
 // The filter of one block (H.265 8.7.3): the deblocked plane is read, the filtered plane is written.
-// Type and class are looked at once per block, and what may not be compared lies outside the loops
-// over samples. Neighbours are samples of the same deblocked plane.
+// One match on type and class selects the rule of a block, and below it the filter by edge goes by the
+// two steps alone; what may not be compared lies outside the loops over samples. Neighbours are
+// samples of the same deblocked plane.
 use planes::copy_row;
 use planes::index;
 use rows::Moves;
@@ -13,20 +14,18 @@ use standard::Offsets;
 use standard::Rectangle;
 ghost use mathlib.Core.Path.{_≡_};
 ghost use mathlib.Core.Bool.{true, _&&_};
-ghost use Prim.Native.Nat.{ℕ, _+_, _-_, _*_, _^_, _≤_, _<_, min, max};
+ghost use Prim.Native.Nat.{ℕ, _+_, _-_, _*_, _≤_, _<_, min, max};
 ghost use lib.IntN.{pos, negsuc, natAbs, _+ℤ_};
-ghost use lib.ListN.{length};
 ghost use Rattle.standard.specs.Picture.{Inside};
 ghost use Rattle.standard.specs.Sets.{NotNegative};
-ghost use Rattle.standard.specs.Samples.{Context, stepsOf, at, sample};
+ghost use Rattle.standard.specs.Samples.{Context, inPicture, at, sample};
 ghost use Rattle.standard.specs.Calls.{Written};
-ghost use Rattle.standard.proofs.Counting.{Place};
 ghost use Rattle.planes.specs.Places.{block, row};
 ghost use Rattle.rows.specs.Moves.{scaledBy, movesOf, Room};
 ghost use Rattle.rows.specs.Parts.{Banded};
-ghost use Rattle.samples.specs.Steps.{stepTo, entryOf, Reach};
-ghost use Rattle.samples.specs.Around.{sideOf, rowOf, pickOf, answerOf, isOpen, AllOf, AllOpen, Alike, Differ, Parted, contextFrom, Agrees, pictureAround};
-ghost use Rattle.samples.specs.Blocks.{Lent, Under, Ready, EdgeReady, byBand, byEdge, compared, edgeIf};
+ghost use Rattle.samples.specs.Steps.{stepTo, entryOf, Steps, ByOne, Reach};
+ghost use Rattle.samples.specs.Around.{sideOf, rowOf, pickOf, answerOf, answered, isOpen, AllOf, AllOpen, Alike, Differ, Parted, contextFrom, Agrees, pictureAround};
+ghost use Rattle.samples.specs.Blocks.{Lent, Ready, EdgeReady, byBand, byEdge, compared, edgeIf};
 
 // ---- steps to the neighbours
 
@@ -44,26 +43,19 @@ const STEPS: [[Step; 2]; 4] = [
     [Step { dx: 1, dy: -1 }, Step { dx: -1, dy: 1 }],
 ];
 
+// They are those of the definitions, and in each class the second step is the first negated.
+fn steps() -> [[Step; 2]; 4]
+    ensures { λ t. ⌜ Steps t ⌝ }
+{
+    STEPS
+}
+
+// Of such a table, the step to neighbour k of a class.
 fn entry(steps: [[Step; 2]; 4], class: usize, k: usize) -> Step
     requires { ⌜ (class < 4) × (k < 2) ⌝ }
     ensures { λ r. ⌜ r ≡ entryOf steps class k ⌝ }
 {
     steps[class][k]
-}
-
-// The step to the first neighbour of a class, and to the second.
-fn first_step(class: u8) -> Step
-    requires { ⌜ class < 4 ⌝ }
-    ensures { λ r. ⌜ stepTo r ≡ stepsOf class .0 ⌝ }
-{
-    entry(STEPS, class as usize, 0)
-}
-
-fn second_step(class: u8) -> Step
-    requires { ⌜ class < 4 ⌝ }
-    ensures { λ r. ⌜ stepTo r ≡ stepsOf class .1 ⌝ }
-{
-    entry(STEPS, class as usize, 1)
 }
 
 // A column, or a row, a step away.
@@ -150,7 +142,7 @@ fn row_of(o: Around, down: Side) -> Three
     }
 }
 
-fn pick(t: Three, across: Side) -> bool
+fn among(t: Three, across: Side) -> bool
     ensures { λ r. ⌜ r ≡ pickOf t across ⌝ }
 {
     match across {
@@ -163,18 +155,7 @@ fn pick(t: Three, across: Side) -> bool
 fn answer(o: Around, across: Side, down: Side) -> bool
     ensures { λ r. ⌜ r ≡ answerOf o across down ⌝ }
 {
-    pick(row_of(o, down), across)
-}
-
-// Of two neighbours.
-fn both(o: Around, across: Side, down: Side, across2: Side, down2: Side) -> bool
-    ensures { λ r. ⌜ r ≡ (answerOf o across down && answerOf o across2 down2) ⌝ }
-{
-    if answer(o, across, down) {
-        answer(o, across2, down2)
-    } else {
-        false
-    }
+    among(row_of(o, down), across)
 }
 
 // The side of the column, or row, before x, and of the one after it, of a block from a on or up
@@ -197,22 +178,34 @@ fn onward(b: usize, x: usize) -> Side
     }
 }
 
-// Whether both neighbours of column x of row y may be compared with it.
-fn is_open(o: Around, class: u8, r: Rectangle, x: usize, y: usize) -> bool
-    requires { ⌜ Inside r x y × (r .x1 ≤ 8192) × (r .y1 ≤ 8192) × (class < 4) ⌝ }
-    ensures { λ t. ⌜ t ≡ isOpen o r class x y ⌝ }
+// The side of the column, or row, that is d away from x.
+fn side_at(a: usize, b: usize, x: usize, d: i32) -> Side
+    requires { ⌜ (a ≤ x) × (x < b) × (b ≤ 8192) × (natAbs d ≤ 1) ⌝ }
+    ensures { λ r. ⌜ r ≡ sideOf a b (pos x +ℤ d) ⌝ }
 {
-    let west = back(r.x0, x);
-    let east = onward(r.x1, x);
-    let north = back(r.y0, y);
-    let south = onward(r.y1, y);
-    let here = Side::Within;
-    match class {
-        0 => both(o, west, here, east, here),
-        1 => both(o, here, north, here, south),
-        2 => both(o, west, north, east, south),
-        _ => both(o, east, north, west, south),
+    match d {
+        -1 => back(a, x),
+        0 => Side::Within,
+        _ => onward(b, x),
     }
+}
+
+// Whether the neighbour a step away from column x of row y may be compared with it.
+fn is_free(o: Around, s: Step, r: Rectangle, x: usize, y: usize) -> bool
+    requires { ⌜ Inside r x y × (r .x1 ≤ 8192) × (r .y1 ≤ 8192) × ByOne (stepTo s) ⌝ }
+    ensures { λ t. ⌜ t ≡ answered o r (pos x +ℤ s .dx) (pos y +ℤ s .dy) ⌝ }
+{
+    let across = side_at(r.x0, r.x1, x, s.dx);
+    let down = side_at(r.y0, r.y1, y, s.dy);
+    answer(o, across, down)
+}
+
+// Whether both neighbours may.
+fn is_open(o: Around, a: Step, b: Step, r: Rectangle, x: usize, y: usize) -> bool
+    requires { ⌜ Inside r x y × (r .x1 ≤ 8192) × (r .y1 ≤ 8192) × ByOne (stepTo a) × ByOne (stepTo b) ⌝ }
+    ensures { λ t. ⌜ t ≡ isOpen o r (stepTo a) (stepTo b) x y ⌝ }
+{
+    also(is_free(o, a, r, x, y), is_free(o, b, r, x, y))
 }
 
 // Whether nothing is barred.
@@ -266,15 +259,15 @@ struct Runs {
 }
 
 // All the columns between the first and the last have their neighbours across in the block.
-fn runs_of(o: Around, class: u8, r: Rectangle, y: usize) -> Runs
-    requires { ⌜ Inside r (r .x0) y × (r .x1 ≤ 8192) × (r .y1 ≤ 8192) × (class < 4) ⌝ }
-    ensures { λ k. ⌜ Parted (λ x. isOpen o r class x y) (r .x0) (r .x1) k ⌝ }
+fn runs_of(o: Around, a: Step, b: Step, r: Rectangle, y: usize) -> Runs
+    requires { ⌜ Inside r (r .x0) y × (r .x1 ≤ 8192) × (r .y1 ≤ 8192) × ByOne (stepTo a) × ByOne (stepTo b) ⌝ }
+    ensures { λ k. ⌜ Parted (λ x. isOpen o r (stepTo a) (stepTo b) x y) (r .x0) (r .x1) k ⌝ }
 {
     let z = r.x1 - 1;
     let e = second(r.x0, z);
-    let first = is_open(o, class, r, r.x0, y);
-    let middle = is_open(o, class, r, e, y);
-    let last = is_open(o, class, r, z, y);
+    let first = is_open(o, a, b, r, r.x0, y);
+    let middle = is_open(o, a, b, r, e, y);
+    let last = is_open(o, a, b, r, z, y);
     let c = r.x0 + differ(first, middle);
     let d = r.x1 - differ(last, middle);
     Runs {
@@ -291,7 +284,7 @@ fn runs_of(o: Around, class: u8, r: Rectangle, y: usize) -> Runs
 // Where the neighbour of column x of row y stands in the plane.
 fn place(l: Layout, s: Step, x: usize, y: usize) -> usize
     requires { ⌜ (l .width ≤ 8192) × (l .height ≤ 8192) × (x ≤ 8192) × (y ≤ 8192) ⌝ }
-    requires { ⌜ Place (l .width) (l .height) (pos x +ℤ s .dx) (pos y +ℤ s .dy) ⌝ }
+    requires { ⌜ inPicture (l .width) (l .height) (pos x +ℤ s .dx) (pos y +ℤ s .dy) ≡ true ⌝ }
     ensures { λ r. ⌜ r ≡ natAbs (pos y +ℤ s .dy) * l .width + natAbs (pos x +ℤ s .dx) ⌝ }
 {
     let u = stepped(x, s.dx);
@@ -429,7 +422,8 @@ fn edge_part(
 fn edge_band(
     l: Layout,
     m: Moves,
-    class: u8,
+    a: Step,
+    b: Step,
     o: Around,
     r: Rectangle,
     y0: usize,
@@ -437,14 +431,12 @@ fn edge_band(
     plane: &[u16],
     out: &mut [u16],
 )
-    requires { ⌜ EdgeReady l m class o r (now plane) (now out) ⌝ }
-    requires { ⌜ (r .y0 ≤ y0) × (y0 ≤ y1) × (y1 ≤ r .y1) × Alike o r class y0 y1 ⌝ }
-    ensures { λ _. ⌜ Written (l .width) (l .height) (block (r .x0) (r .x1) y0 y1) (byEdge l (contextFrom r o) m class (now (plane .entry))) (now (out .entry)) (now (out .exit)) ⌝ }
+    requires { ⌜ EdgeReady l m (stepTo a) (stepTo b) o r (now plane) (now out) ⌝ }
+    requires { ⌜ (r .y0 ≤ y0) × (y0 ≤ y1) × (y1 ≤ r .y1) × Alike o r (stepTo a) (stepTo b) y0 y1 ⌝ }
+    ensures { λ _. ⌜ Written (l .width) (l .height) (block (r .x0) (r .x1) y0 y1) (byEdge l (contextFrom r o) m (stepTo a) (stepTo b) (now (plane .entry))) (now (out .entry)) (now (out .exit)) ⌝ }
 {
     if y0 < y1 {
-        let a = first_step(class);
-        let b = second_step(class);
-        let k = runs_of(o, class, r, y0);
+        let k = runs_of(o, a, b, r, y0);
         let left = Rectangle {
             x0: r.x0,
             x1: k.c,
@@ -481,41 +473,41 @@ fn last_from(t: usize, y1: usize) -> usize
 fn edge_bands(
     l: Layout,
     m: Moves,
-    class: u8,
+    a: Step,
+    b: Step,
     o: Around,
     r: Rectangle,
     plane: &[u16],
     out: &mut [u16],
 )
-    requires { ⌜ EdgeReady l m class o r (now plane) (now out) ⌝ }
-    ensures { λ _. ⌜ Written (l .width) (l .height) r (byEdge l (contextFrom r o) m class (now (plane .entry))) (now (out .entry)) (now (out .exit)) ⌝ }
+    requires { ⌜ EdgeReady l m (stepTo a) (stepTo b) o r (now plane) (now out) ⌝ }
+    ensures { λ _. ⌜ Written (l .width) (l .height) r (byEdge l (contextFrom r o) m (stepTo a) (stepTo b) (now (plane .entry))) (now (out .entry)) (now (out .exit)) ⌝ }
 {
     let t = r.y0 + 1;
     let u = last_from(t, r.y1);
-    edge_band(l, m, class, o, r, r.y0, t, plane, out);
-    edge_band(l, m, class, o, r, t, u, plane, out);
-    edge_band(l, m, class, o, r, u, r.y1, plane, out);
+    edge_band(l, m, a, b, o, r, r.y0, t, plane, out);
+    edge_band(l, m, a, b, o, r, t, u, plane, out);
+    edge_band(l, m, a, b, o, r, u, r.y1, plane, out);
 }
 
 // By edge: where nothing is barred, every row in one piece.
 fn edge_block(
     l: Layout,
     m: Moves,
-    class: u8,
+    a: Step,
+    b: Step,
     o: Around,
     r: Rectangle,
     plane: &[u16],
     out: &mut [u16],
 )
-    requires { ⌜ EdgeReady l m class o r (now plane) (now out) ⌝ }
-    ensures { λ _. ⌜ Written (l .width) (l .height) r (byEdge l (contextFrom r o) m class (now (plane .entry))) (now (out .entry)) (now (out .exit)) ⌝ }
+    requires { ⌜ EdgeReady l m (stepTo a) (stepTo b) o r (now plane) (now out) ⌝ }
+    ensures { λ _. ⌜ Written (l .width) (l .height) r (byEdge l (contextFrom r o) m (stepTo a) (stepTo b) (now (plane .entry))) (now (out .entry)) (now (out .exit)) ⌝ }
 {
     if all_open(o) {
-        let a = first_step(class);
-        let b = second_step(class);
         edge_rows(l, m, a, b, r, plane, out);
     } else {
-        edge_bands(l, m, class, o, r, plane, out);
+        edge_bands(l, m, a, b, o, r, plane, out);
     }
 }
 
@@ -549,8 +541,14 @@ pub fn filter_block(
             o3,
             o4,
         } => {
-            let m = moves_for(l, o1, o2, o3, o4);
-            band_rows(l, m, position as u16, r, plane, out);
+            band_rows(
+                l,
+                moves_for(l, o1, o2, o3, o4),
+                position as u16,
+                r,
+                plane,
+                out,
+            );
         }
         Offsets::Edge {
             class,
@@ -560,7 +558,13 @@ pub fn filter_block(
             o4,
         } => {
             let m = moves_for(l, o1, o2, o3, o4);
-            edge_block(l, m, class, o, r, plane, out);
+            let s = steps();
+            match class {
+                0 => edge_block(l, m, entry(s, 0, 0), entry(s, 0, 1), o, r, plane, out),
+                1 => edge_block(l, m, entry(s, 1, 0), entry(s, 1, 1), o, r, plane, out),
+                2 => edge_block(l, m, entry(s, 2, 0), entry(s, 2, 1), o, r, plane, out),
+                _ => edge_block(l, m, entry(s, 3, 0), entry(s, 3, 1), o, r, plane, out),
+            }
         }
     }
 }

@@ -1,16 +1,12 @@
--- Each contract has one answer.
+-- Each contract has one answer; those of tests by `one-answer`.
 use mathlib.Core.Path.{_≡_, refl, sym, ap, _∙_}
-use mathlib.Core.Bool.{Bool}
 use mathlib.Core.List.{List}
 use mathlib.Core.Logic.{inl, inr}
 use Prim.Native.Nat.{ℕ}
 use Rattle.standard.specs.declared.Offsets.{Offsets}
 use Rattle.standard.specs.declared.CtuSet.{CtuSet}
 use Rattle.standard.specs.declared.Switches.{Switches}
-use Rattle.standard.specs.Sets.{Valid}
 use Rattle.standard.specs.Table.{encode, entered, offsetsAt}
-use Rattle.standard.specs.Refusals.{Tells}
-use Rattle.standard.proofs.Answers.{one-answer}
 use Rattle.sets.specs.declared.Found.{Found}
 use Rattle.sets.specs.declared.Found.the-variants.{Set, Bad}
 use Rattle.sets.specs.Entries.{Finds, Stands, StandsFor}
@@ -21,15 +17,6 @@ get-set-once s table k (Set q) (Set q′) f f′ = ap Set (sym (found-stored f) 
 get-set-once s table k (Set q) Bad f f′ = absurd (f′ (sound-of f))
 get-set-once s table k Bad (Set q) f f′ = absurd (f (sound-of f′))
 get-set-once s table k Bad Bad f f′ = refl
-
-pub same-offsets-once : (a b : Offsets) (r r′ : Bool) → Tells (a ≡ b) r → Tells (a ≡ b) r′ → r ≡ r′
-same-offsets-once a b = one-answer (a ≡ b)
-
-pub same-set-once : (a b : CtuSet) (r r′ : Bool) → Tells (a ≡ b) r → Tells (a ≡ b) r′ → r ≡ r′
-same-set-once a b = one-answer (a ≡ b)
-
-pub is-valid-once : (s : Switches) (q : CtuSet) (r r′ : Bool) → Tells (Valid s q) r → Tells (Valid s q) r′ → r ≡ r′
-is-valid-once s q = one-answer (Valid s q)
 
 pub put-set-once : (table : List ℕ) (k : ℕ) (q : CtuSet) (exit exit′ : List ℕ) → exit ≡ entered table k q → exit′ ≡ entered table k q → exit ≡ exit′
 put-set-once table k q exit exit′ e e′ = e ∙ sym e′

@@ -156,7 +156,7 @@ fn same_bytes(a: Six, b: Six) -> bool
     a.o4 == b.o4
 }
 
-pub fn same_offsets(a: Offsets, b: Offsets) -> bool
+fn same_offsets(a: Offsets, b: Offsets) -> bool
     ensures { λ r. ⌜ Tells (a ≡ b) r ⌝ }
 {
     let x = bytes_of(a);

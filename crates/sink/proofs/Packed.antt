@@ -10,8 +10,8 @@ use lib.Seq.{take-append-le, take-append-add, drop-append-add, drop-drop, drop-a
 use Rattle.standard.specs.Bins.{fixedLength, bitsOf, binsOf, number, bytesOf, packed}
 use Rattle.standard.proofs.Bits.{number-nil, number-lt, number-add, number-high, number-take, number-fixed}
 use Rattle.standard.proofs.Longest.{fixed-length}
-use Rattle.standard.proofs.Packed.{bytes-length, packed-back}
-use Rattle.sink.specs.Puts.{Room, Puts}
+use Rattle.standard.proofs.Packed.{bits-length, bytes-length, packed-back}
+use Rattle.sink.specs.Puts.{Room, placed, Puts}
 use Rattle.sink.proofs.Bits.{shl-shr-part}
 
 -- ---- packed bins
@@ -94,6 +94,32 @@ stored (x ∷ l) (suc q) at s k t v a e p h b =
     ∙ ap (λ (r : List Bool). packed r (x ∷ l)) (append-assoc (fixedLength 8 x) (take at′ (bitsOf l)) (fixedLength k v))
     ∙ packed-cons x (take at′ (bitsOf l) ++ fixedLength k v) l (b 0))
 
+-- ---- bins placed
+
+placed-some : (at : ℕ) (w : List Bool) (l : List ℕ) → 0 < length w → placed at w l ≡ packed (binsOf l at ++ w) l
+unfolding placed
+placed-some at [] l h = absurd (not-suc-le-zero h)
+placed-some at (b ∷ w) l h = refl
+
+bins-length : (l : List ℕ) (at : ℕ) → at ≤ 8 * length l → length (binsOf l at) ≡ at
+unfolding binsOf
+bins-length l at h = length-take-le at (bitsOf l) (omega (arith, bits-length l))
+
+-- over bins that are packed, more are packed as after them
+packed-more : (w b : List Bool) (l : List ℕ) (n : ℕ) → length w ≡ n → packed (binsOf (packed w l) n ++ b) (packed w l) ≡ packed (w ++ b) l
+packed-more w b l n e =
+    ap (λ (r : List Bool). packed (r ++ b) (packed w l)) (ap (binsOf (packed w l)) (sym e) ∙ packed-back w l)
+    ∙ packed-packed (w ++ b) w l (omega (arith, length-append w b))
+
+placed-then : (at : ℕ) (a b : List Bool) (l : List ℕ) → at ≤ 8 * length l → placed (at + length a) b (placed at a l) ≡ placed at (a ++ b) l
+unfolding placed
+placed-then at [] b l h = ap (λ (n : ℕ). placed n b l) (add-zero at)
+placed-then at (x ∷ a) [] l h = ap (λ (w : List Bool). packed (binsOf l at ++ (x ∷ w)) l) (sym (append-nil a))
+placed-then at (x ∷ a) (y ∷ b) l h =
+    let w : List Bool = binsOf l at ++ (x ∷ a) in
+    packed-more w (y ∷ b) l (at + length (x ∷ a)) (length-append (binsOf l at) (x ∷ a) ∙ ap (λ (n : ℕ). n + length (x ∷ a)) (bins-length l at h))
+    ∙ ap (λ (v : List Bool). packed v l) (append-assoc (binsOf l at) (x ∷ a) (y ∷ b))
+
 -- ---- puts
 
 pub part-puts : (l : List ℕ) (at k v : ℕ) (exit : List ℕ) (next : ℕ) → at % 8 + k ≤ 8 → 0 < k → at + k ≤ 8 * length l → ((i : ℕ) → getD l i 0 < 256)
@@ -109,34 +135,41 @@ part-puts l at k v exit next r p f b e n =
     record {
       moved = n ∙ ap (λ (j : ℕ). at + j) (sym (fixed-length k v));
       long = ap length e ∙ length-set l (at / 8) _;
-      bytes = λ bins before len is.
-          let old : take at (bitsOf l) ≡ bins = ap₂ (λ (j : ℕ) (m : List ℕ). take j (bitsOf m)) (sym len) is ∙ packed-back bins before in
-          s ∙ ap₂ (λ (o : List Bool) (m : List ℕ). packed (o ++ fixedLength k v) m) old is
-          ∙ packed-packed (bins ++ fixedLength k v) bins before (omega (arith, length-append bins (fixedLength k v)));
+      bytes = λ room. s ∙ sym (placed-some at (fixedLength k v) l (omega (arith, fixed-length k v)));
     }
 
 pub puts-none : (at : ℕ) (l : List ℕ) → Puts at [] l l at
-puts-none at l = record { moved = sym (add-zero at); long = refl; bytes = λ bins before len is. is ∙ ap (λ (w : List Bool). packed w before) (sym (append-nil bins)) }
-
-pub puts-then : {at : ℕ} {a b : List Bool} {l0 l1 l2 : List ℕ} {n1 n2 : ℕ} → Puts at a l0 l1 n1 → Puts n1 b l1 l2 n2 → Puts at (a ++ b) l0 l2 n2
-puts-then {at} {a} {b} {l0} {l1} {l2} {n1} {n2} p q = record {
-  moved = omega (arith, p .moved, q .moved, length-append a b);
-  long = q .long ∙ p .long;
-  bytes = λ bins before len is.
-      q .bytes (bins ++ a) before (length-append bins a ∙ omega (arith, p .moved)) (p .bytes bins before len is)
-      ∙ ap (λ (w : List Bool). packed w before) (append-assoc bins a b);
-}
-
--- the bins are all that was put
-pub puts-packed : {a : List Bool} {l0 l1 : List ℕ} {n : ℕ} → Puts 0 a l0 l1 n → l1 ≡ packed a l0
-unfolding packed bytesOf
-puts-packed {a} {l0} p = p .bytes [] l0 refl refl
+unfolding placed
+puts-none at l = record { moved = sym (add-zero at); long = refl; bytes = λ room. refl }
 
 pub room-first : {at : ℕ} (a b : List Bool) {l : List ℕ} → Room at (length (a ++ b)) l → Room at (length a) l
 room-first a b r = record { fits = omega (arith, r .fits, length-append a b); small = omega (arith, r .small, length-append a b) }
 
 pub room-rest : {at n : ℕ} (a b : List Bool) {l0 l1 : List ℕ} → Room at (length (a ++ b)) l0 → Puts at a l0 l1 n → Room n (length b) l1
 room-rest a b r p = record { fits = omega (arith, r .fits, p .moved, p .long, length-append a b); small = omega (arith, r .small, p .moved, length-append a b) }
+
+pub puts-then : {at : ℕ} {a b : List Bool} {l0 l1 l2 : List ℕ} {n1 n2 : ℕ} → Puts at a l0 l1 n1 → Puts n1 b l1 l2 n2 → Puts at (a ++ b) l0 l2 n2
+puts-then {at} {a} {b} {l0} {l1} {l2} {n1} {n2} p q = record {
+  moved = omega (arith, p .moved, q .moved, length-append a b);
+  long = q .long ∙ p .long;
+  bytes = λ r.
+      q .bytes (room-rest a b r p)
+      ∙ ap₂ (λ (n : ℕ) (l : List ℕ). placed n b l) (p .moved) (p .bytes (room-first a b r))
+      ∙ placed-then at a b l0 (omega (arith, r .fits));
+}
+
+-- the bins are all that was put
+placed-first : (a : List Bool) (l : List ℕ) → placed 0 a l ≡ packed a l
+unfolding placed packed bytesOf binsOf
+placed-first [] l = refl
+placed-first (b ∷ a) l = refl
+
+pub puts-packed : {a : List Bool} {l0 l1 : List ℕ} {n : ℕ} → Room 0 (length a) l0 → Puts 0 a l0 l1 n → l1 ≡ packed a l0
+puts-packed {a} {l0} r p = p .bytes r ∙ placed-first a l0
+
+-- what was put determines the bytes and the place
+pub puts-one : {at : ℕ} {a : List Bool} {l0 l1 l2 : List ℕ} {n1 n2 : ℕ} → Room at (length a) l0 → Puts at a l0 l1 n1 → Puts at a l0 l2 n2 → (l1 ≡ l2) × (n1 ≡ n2)
+puts-one r p q = (p .bytes r ∙ sym (q .bytes r), p .moved ∙ sym (q .moved))
 
 -- the same bins, and the same room
 pub puts-as : {at next : ℕ} {a b : List Bool} {l0 l1 : List ℕ} → a ≡ b → Puts at a l0 l1 next → Puts at b l0 l1 next

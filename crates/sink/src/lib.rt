@@ -16,7 +16,7 @@ pub struct Put {
     pub at: usize,
 }
 
-fn least(a: u32, b: u32) -> u32
+fn fewer(a: u32, b: u32) -> u32
     ensures { λ r. ⌜ r ≡ min a b ⌝ }
 {
     if a < b { a } else { b }
@@ -88,7 +88,7 @@ impl Put {
         let mut left = width;
         while left > 0 {
             let room = 8 - (c.at % 8) as u32;
-            let k = least(left, room);
+            let k = fewer(left, room);
             left -= k;
             c = c.part(out, k, value >> left);
         }

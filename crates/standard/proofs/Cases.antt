@@ -1,11 +1,11 @@
--- Document 01's ten cases, as one table under one statement, proved of the definitions by computation. What is read is stated of `Means`
--- and of the reader that agrees with it, what is refused of the call's reasons.
-use mathlib.Core.Path.{_≡_, refl}
-use mathlib.Core.Bool.{true, false}
+-- Document 01's ten cases, and some beyond them, as one table of numbered rows under one statement, that every row holds: proved of the
+-- definitions by computation. What is read is stated of `Means` and of the reader that agrees with it, what is refused of the call's reasons.
+use mathlib.Core.Path.{_≡_, refl, subst}
+use mathlib.Core.Bool.{Bool, true, false}
 use mathlib.Core.List.{List, [], _∷_, _++_}
 use Prim.Native.Nat.{ℕ}
 use lib.IntN.{pos, negsuc}
-use lib.ListN.{length, replicate}
+use lib.ListN.{replicate}
 use Rattle.standard.specs.declared.Picture.{Picture}
 use Rattle.standard.specs.declared.State.{State}
 use Rattle.standard.specs.declared.Offsets.{Offsets}
@@ -13,22 +13,26 @@ use Rattle.standard.specs.declared.Offsets.the-variants.{Off, Band, Edge
 use Rattle.standard.specs.declared.CtuSet.{CtuSet}
 use Rattle.standard.specs.Sets.{largest, switchesOf, allOff}
 use Rattle.standard.specs.Bins.{truncated, binsOf}
-use Rattle.standard.specs.Samples.{Parameters, neighbour, sample, filteredPlane}
+use Rattle.standard.specs.Samples.{Parameters, filteredPlane}
 use Rattle.standard.specs.Table.{entrySize, encodeEntry}
-use Rattle.standard.specs.Refusals.{First, Clear}
+use Rattle.standard.specs.Refusals.{Reason, First, Clear}
 use Rattle.standard.specs.Reasons.{Planes, leftSet, upperSet, MeansHere, readReasons, filterReasons}
 use Rattle.standard.proofs.Codes.{got}
 use Rattle.standard.proofs.Reader.{readCtu, got-is-meant}
-use Rattle.standard.proofs.Decisions.{numberIn, IsRefusal, refused-with, accepted}
+use Rattle.standard.proofs.Decisions.{Verdict, numberIn, IsRefusal, refused-with, accepted}
 use Rattle.standard.proofs.Computing.{definitions}
 use Rattle.standard.proofs.Refusing.{readVerdict, filterVerdict}
 
--- monochrome, CTB size 16, depth 8, luma on
-abbrev pub mono : ℕ → ℕ → Picture
-mono w h = record { width = w; height = h; ctb = 16; format = 0; depth = 8; luma = true; chroma = false }
+-- monochrome, CTB size 16, luma on, of a depth; and of depth 8
+abbrev pub monoOf : ℕ → ℕ → ℕ → Picture
+monoOf depth w h = record { width = w; height = h; ctb = 16; format = 0; depth = depth; luma = true; chroma = false }
 
-abbrev pub due : ℕ → ℕ → ℕ → State
-due w h n = record { picture = mono w h; next = n }
+abbrev pub mono : ℕ → ℕ → Picture
+mono w h = monoOf 8 w h
+
+-- the CTU of that number is due
+abbrev pub due : Picture → ℕ → State
+due p n = record { picture = p; next = n }
 
 abbrev pub ofLuma : Offsets → CtuSet
 ofLuma c = record { luma = c; cb = Off; cr = Off }
@@ -43,20 +47,38 @@ pub record Reads (s : State) (table bytes : List ℕ) (count : ℕ) (q : CtuSet)
 abbrev pub Refuses : State → List ℕ → List ℕ → ℕ → ℕ → Type 0
 Refuses s table bytes count n = First (readReasons s bytes count table) n
 
--- CTU 0 of a picture of one
-abbrev pub one : State
-one = due 16 16 0
-
-abbrev pub empty : List ℕ
-empty = replicate entrySize 0
-
 -- one set for every CTU
 abbrev pub everywhere : CtuSet → Parameters
 everywhere q = record { sets = λ k. q }
 
--- a row of samples, filtered as a picture one sample high
-abbrev pub filtered : Offsets → List ℕ → List ℕ
-filtered c row = filteredPlane (mono (length row) 1) (everywhere (ofLuma c)) 0 row
+-- ---- a case
+
+pub data Case : Type 0 where
+  -- at a depth a magnitude has these bins
+  magnitude : ℕ → ℕ → List Bool → Case
+  -- while a CTU is due, with a table, the first bins of some bytes, so many of them, are read as a set; or are refused with a number
+  reads : State → List ℕ → List ℕ → ℕ → CtuSet → Case
+  refuses : State → List ℕ → List ℕ → ℕ → ℕ → Case
+  -- luma's plane of a picture becomes another by a set
+  becomes : Picture → Offsets → List ℕ → List ℕ → Case
+  -- filtering CTB k of luma is refused with a number, of two planes, marks and a table
+  waits : State → ℕ → Planes → List ℕ → List ℕ → ℕ → Case
+
+abbrev pub Holds : Case → Type 0
+Holds (magnitude depth v bins) = truncated (largest depth) v ≡ bins
+Holds (reads s table bytes count q) = Reads s table bytes count q
+Holds (refuses s table bytes count n) = Refuses s table bytes count n
+Holds (becomes p c before after) = filteredPlane p (everywhere (ofLuma c)) 0 before ≡ after
+Holds (waits s k planes marks table n) = First (filterReasons s 0 k planes planes marks table) n
+
+-- ---- the table
+
+-- CTU 0 of a picture of one, at depth 8, and a table with nothing in it
+abbrev pub one : State
+one = due (mono 16 16) 0
+
+abbrev pub empty : List ℕ
+empty = replicate entrySize 0
 
 abbrev pub case5 : Offsets
 case5 = Band 30 (pos 0) (negsuc 2) (pos 0) (pos 1)
@@ -68,70 +90,119 @@ A = ofLuma (Band 3 (pos 1) (pos 2) (negsuc 2) (pos 0))
 abbrev pub B : CtuSet
 B = ofLuma (Edge 1 (pos 1) (pos 0) (pos 0) (negsuc 0))
 
-abbrev pub plane : ℕ → Planes
-plane n = record { y = replicate n 0; cb = []; cr = [] }
+-- the offsets of case 7, in any class
+abbrev pub edges : ℕ → Offsets
+edges class = Edge class (pos 2) (pos 1) (negsuc 0) (negsuc 1)
 
-pub record Ten : Type 0 where
-  -- 1. Magnitudes 0, 3, 7: "0", "1110", "1111111"
-  pub magnitude-0 : truncated (largest 8) 0 ≡ false ∷ []
-  pub magnitude-3 : truncated (largest 8) 3 ≡ true ∷ true ∷ true ∷ false ∷ []
-  pub magnitude-7 : truncated (largest 8) 7 ≡ true ∷ true ∷ true ∷ true ∷ true ∷ true ∷ true ∷ []
-  -- 2. Bin "0": off
-  pub off : Reads one empty (0 ∷ []) 1 allOff
-  -- 3. E3 40, count 11: edge, class 2, offsets 1, 0, 0, -2. E3 5F with count 11 reads the same
-  pub edge : Reads one empty (227 ∷ 64 ∷ []) 11 (ofLuma (Edge 2 (pos 1) (pos 0) (pos 0) (negsuc 1)))
-  pub edge-again : Reads one empty (227 ∷ 95 ∷ []) 11 (ofLuma (Edge 2 (pos 1) (pos 0) (pos 0) (negsuc 1)))
-  -- 4. E3 40 with count 10: refused 5. Count 12: refused 6. Count 17: refused 4
-  pub early : Refuses one empty (227 ∷ 64 ∷ []) 10 5
-  pub remain : Refuses one empty (227 ∷ 64 ∷ []) 12 6
-  pub above : Refuses one empty (227 ∷ 64 ∷ []) 17 4
-  -- 5. 9C AF 00, count 17: band, position 30, offsets 0, -3, 0, 1
-  pub band : Reads one empty (156 ∷ 175 ∷ 0 ∷ []) 17 (ofLuma case5)
-  -- 6. With case 5: 240, 248, 7, 8, 16 become 240, 245, 7, 9, 16
-  pub banded : filtered case5 (240 ∷ 248 ∷ 7 ∷ 8 ∷ 16 ∷ []) ≡ 240 ∷ 245 ∷ 7 ∷ 9 ∷ 16 ∷ []
-  -- 7. Row 5 3 5 5 6 6 4 4, class 0, offsets 2, 1, -1, -2: 5 5 4 6 5 5 5 4
-  pub edged : filtered (Edge 0 (pos 2) (pos 1) (negsuc 0) (negsuc 1)) (5 ∷ 3 ∷ 5 ∷ 5 ∷ 6 ∷ 6 ∷ 4 ∷ 4 ∷ []) ≡ 5 ∷ 5 ∷ 4 ∷ 6 ∷ 5 ∷ 5 ∷ 5 ∷ 4 ∷ []
-  -- 8. Band 31, offset 7: 250 becomes 255. Band 0, offset -7: 2 becomes 0
-  pub upper-limit : filtered (Band 31 (pos 7) (pos 0) (pos 0) (pos 0)) (250 ∷ []) ≡ 255 ∷ []
-  pub lower-limit : filtered (Band 0 (negsuc 6) (pos 0) (pos 0) (pos 0)) (2 ∷ []) ≡ 0 ∷ []
-  -- 9. CTU with a left neighbour: "1" copies it. With both neighbours: "01" copies the upper
-  pub left : Reads (due 32 16 1) (encodeEntry A ++ encodeEntry allOff) (128 ∷ []) 1 A
-  pub upper : Reads (due 32 32 3) (encodeEntry allOff ++ (encodeEntry A ++ (encodeEntry B ++ encodeEntry allOff))) (64 ∷ []) 2 A
-  -- 10. 32x16, CTB size 16, both sets in, CTB 0 delivered, CTB 1 not: filtering CTB 0 is refused 10
-  pub waits : First (filterReasons (due 32 16 2) 0 0 (plane 512) (plane 512) (1 ∷ 0 ∷ []) (encodeEntry allOff ++ encodeEntry allOff)) 10
+-- a block, row after row, that each class changes otherwise, and that no other two steps of one sample change as the class does
+abbrev pub block : List ℕ
+block = 7 ∷ 7 ∷ 9 ∷ 6 ∷ 3 ∷ 7 ∷ 7 ∷ 4 ∷ 7 ∷ 3 ∷ 5 ∷ 5 ∷ []
+
+-- the number of a case, and a row of it
+abbrev pub table : List (ℕ × Case)
+table =
+    -- 1. Magnitudes 0, 3, 7: "0", "1110", "1111111"
+    (1, magnitude 8 0 (false ∷ []))
+    ∷ (1, magnitude 8 3 (true ∷ true ∷ true ∷ false ∷ []))
+    ∷ (1, magnitude 8 7 (true ∷ true ∷ true ∷ true ∷ true ∷ true ∷ true ∷ []))
+    -- 2. Bin "0": off
+    ∷ (2, reads one empty (0 ∷ []) 1 allOff)
+    -- 3. E3 40, count 11: edge, class 2, offsets 1, 0, 0, -2. E3 5F with count 11 reads the same
+    ∷ (3, reads one empty (227 ∷ 64 ∷ []) 11 (ofLuma (Edge 2 (pos 1) (pos 0) (pos 0) (negsuc 1))))
+    ∷ (3, reads one empty (227 ∷ 95 ∷ []) 11 (ofLuma (Edge 2 (pos 1) (pos 0) (pos 0) (negsuc 1))))
+    -- 4. E3 40 with count 10: refused 5. Count 12: refused 6. Count 17: refused 4
+    ∷ (4, refuses one empty (227 ∷ 64 ∷ []) 10 5)
+    ∷ (4, refuses one empty (227 ∷ 64 ∷ []) 12 6)
+    ∷ (4, refuses one empty (227 ∷ 64 ∷ []) 17 4)
+    -- 5. 9C AF 00, count 17: band, position 30, offsets 0, -3, 0, 1
+    ∷ (5, reads one empty (156 ∷ 175 ∷ 0 ∷ []) 17 (ofLuma case5))
+    -- 6. With case 5: 240, 248, 7, 8, 16 become 240, 245, 7, 9, 16
+    ∷ (6, becomes (mono 5 1) case5 (240 ∷ 248 ∷ 7 ∷ 8 ∷ 16 ∷ []) (240 ∷ 245 ∷ 7 ∷ 9 ∷ 16 ∷ []))
+    -- 7. Row 5 3 5 5 6 6 4 4, class 0, offsets 2, 1, -1, -2: 5 5 4 6 5 5 5 4
+    ∷ (7, becomes (mono 8 1) (edges 0) (5 ∷ 3 ∷ 5 ∷ 5 ∷ 6 ∷ 6 ∷ 4 ∷ 4 ∷ []) (5 ∷ 5 ∷ 4 ∷ 6 ∷ 5 ∷ 5 ∷ 5 ∷ 4 ∷ []))
+    -- 8. Band 31, offset 7: 250 becomes 255. Band 0, offset -7: 2 becomes 0
+    ∷ (8, becomes (mono 1 1) (Band 31 (pos 7) (pos 0) (pos 0) (pos 0)) (250 ∷ []) (255 ∷ []))
+    ∷ (8, becomes (mono 1 1) (Band 0 (negsuc 6) (pos 0) (pos 0) (pos 0)) (2 ∷ []) (0 ∷ []))
+    -- 9. CTU with a left neighbour: "1" copies it. With both neighbours: "01" copies the upper
+    ∷ (9, reads (due (mono 32 16) 1) (encodeEntry A ++ encodeEntry allOff) (128 ∷ []) 1 A)
+    ∷ (9, reads (due (mono 32 32) 3) (encodeEntry allOff ++ (encodeEntry A ++ (encodeEntry B ++ encodeEntry allOff))) (64 ∷ []) 2 A)
+    -- 10. 32x16, CTB size 16, both sets in, CTB 0 delivered, CTB 1 not: filtering CTB 0 is refused 10
+    ∷ (10, waits (due (mono 32 16) 2) 0 (record { y = replicate 512 0; cb = []; cr = [] }) (1 ∷ 0 ∷ []) (encodeEntry allOff ++ encodeEntry allOff) 10)
+    -- BEYOND DOCUMENT 01'S TEN, by its formulas
+    -- 11. The block 7 7 9 6, 3 7 7 4, 7 3 5 5 with case 7's offsets in class 0. Rows 0 and 2: 7 is below 9 alone, 9 above 7 and 6; 3 below
+    -- 7 and 5, 5 above 3 alone. Row 1: 7 is above 3 alone, and above 4 alone
+    ∷ (11, becomes (mono 4 3) (edges 0) block (7 ∷ 8 ∷ 7 ∷ 6 ∷ 3 ∷ 6 ∷ 6 ∷ 4 ∷ 7 ∷ 5 ∷ 4 ∷ 5 ∷ []))
+    -- 12. Class 1: of row 1, 3 is below 7 and 7, 7 above 3 alone, 7 below 9 and above 5, 4 below 6 and 5
+    ∷ (12, becomes (mono 4 3) (edges 1) block (7 ∷ 7 ∷ 9 ∷ 6 ∷ 5 ∷ 6 ∷ 7 ∷ 6 ∷ 7 ∷ 3 ∷ 5 ∷ 5 ∷ []))
+    -- 13. Class 2, upper left and lower right: 7 is above 5 alone, and so is the next 7
+    ∷ (13, becomes (mono 4 3) (edges 2) block (7 ∷ 7 ∷ 9 ∷ 6 ∷ 3 ∷ 6 ∷ 6 ∷ 4 ∷ 7 ∷ 3 ∷ 5 ∷ 5 ∷ []))
+    -- 14. Class 3, upper right and lower left: 7 is below 9 alone, and the next 7 above 6 and 3
+    ∷ (14, becomes (mono 4 3) (edges 3) block (7 ∷ 7 ∷ 9 ∷ 6 ∷ 3 ∷ 8 ∷ 5 ∷ 4 ∷ 7 ∷ 3 ∷ 5 ∷ 5 ∷ []))
+    -- 15. Depth 10, where bands are 32 wide and offsets as coded: band 3 begins at 96. 95, 96, 127, 128 become 95, 127, 158, 97
+    ∷ (15, becomes (monoOf 10 4 1) (Band 3 (pos 31) (negsuc 30) (pos 0) (pos 0)) (95 ∷ 96 ∷ 127 ∷ 128 ∷ []) (95 ∷ 127 ∷ 158 ∷ 97 ∷ []))
+    -- 16. Depth 12, where bands are 128 wide and offsets act times 4: 1, -2, 3, -4 from band 5 on, which begins at 640, as 4, -8, 12, -16
+    ∷ (16, becomes (monoOf 12 10 1) (Band 5 (pos 1) (negsuc 1) (pos 3) (negsuc 3)) (639 ∷ 640 ∷ 767 ∷ 768 ∷ 895 ∷ 896 ∷ 1023 ∷ 1024 ∷ 1151 ∷ 1152 ∷ []) (639 ∷ 644 ∷ 771 ∷ 760 ∷ 887 ∷ 908 ∷ 1035 ∷ 1008 ∷ 1135 ∷ 1152 ∷ []))
+    -- 17. Depth 12: case 7's row a hundredfold, and its offsets as 8, 4, -4, -8
+    ∷ (17, becomes (monoOf 12 8 1) (edges 0) (500 ∷ 300 ∷ 500 ∷ 500 ∷ 600 ∷ 600 ∷ 400 ∷ 400 ∷ []) (500 ∷ 308 ∷ 496 ∷ 504 ∷ 596 ∷ 596 ∷ 404 ∷ 400 ∷ []))
+    -- 18. Depth 16, where bands are 2048 wide and offsets act times 64. Band 31, offset 31, as 1984: 65000 becomes 65535. Band 0, offset -31:
+    -- 1000 becomes 0. Band 3, which begins at 6144, with offsets 1 and -2: 6143, 6144, 8191, 8192 become 6143, 6208, 8255, 8064
+    ∷ (18, becomes (monoOf 16 1 1) (Band 31 (pos 31) (pos 0) (pos 0) (pos 0)) (65000 ∷ []) (65535 ∷ []))
+    ∷ (18, becomes (monoOf 16 1 1) (Band 0 (negsuc 30) (pos 0) (pos 0) (pos 0)) (1000 ∷ []) (0 ∷ []))
+    ∷ (18, becomes (monoOf 16 4 1) (Band 3 (pos 1) (negsuc 1) (pos 0) (pos 0)) (6143 ∷ 6144 ∷ 8191 ∷ 8192 ∷ []) (6143 ∷ 6208 ∷ 8255 ∷ 8064 ∷ []))
+    -- 19. The largest magnitude is 15 at depth 9, 31 at depth 10 and at 16: so many ones and no zero. 30 at depth 10: as many, and a zero
+    ∷ (19, magnitude 9 15 (replicate 15 true))
+    ∷ (19, magnitude 10 31 (replicate 31 true))
+    ∷ (19, magnitude 10 30 (replicate 30 true ++ (false ∷ [])))
+    ∷ (19, magnitude 16 31 (replicate 31 true))
+    -- 20. BF FF FF FF FF FF FF FE 12 80, count 73, at depth 10 and at 16: "10", 31 ones, 30 ones and "0", "0", "0", the signs "0" and "1",
+    -- "00101": band, position 5, offsets 31, -30, 0, 0
+    ∷ (20, reads (due (monoOf 10 16 16) 0) empty (191 ∷ replicate 6 255 ++ (254 ∷ 18 ∷ 128 ∷ [])) 73 (ofLuma (Band 5 (pos 31) (negsuc 29) (pos 0) (pos 0))))
+    ∷ (20, reads (due (monoOf 16 16 16) 0) empty (191 ∷ replicate 6 255 ++ (254 ∷ 18 ∷ 128 ∷ [])) 73 (ofLuma (Band 5 (pos 31) (negsuc 29) (pos 0) (pos 0))))
+    -- 21. 32x32, CTB size 16: CTU 2, the first of its row, has none to its left, though CTU 1 was read before it: "1" copies the upper
+    ∷ (21, reads (due (mono 32 32) 2) (encodeEntry A ++ (encodeEntry B ++ (encodeEntry allOff ++ encodeEntry allOff))) (128 ∷ []) 1 A)
+    ∷ []
+
+-- EVERY ROW of a table holds
+abbrev pub Every : List (ℕ × Case) → Type 0
+Every [] = Unit {0}
+Every (row ∷ rows) = Holds (row .1) × Every rows
 
 -- ---- the proof
 
-module _ (s : State) (table bytes : List ℕ) (count : ℕ) where
-  reads : {q : CtuSet} → ¬ IsRefusal (readVerdict s bytes count table)
-      → readCtu (switchesOf s) (leftSet s table) (upperSet s table) (binsOf bytes count) ≡ got q [] → Reads s table bytes count q
-  reads c e = record {
-    clear = accepted (readVerdict s bytes count table) c;
-    means = got-is-meant (switchesOf s) (leftSet s table) (upperSet s table) (binsOf bytes count) e;
-    read = e;
-  }
+-- what is computed of a row
+abbrev Computed : Case → Type 0
+Computed (magnitude depth v bins) = truncated (largest depth) v ≡ bins
+Computed (reads s table bytes count q) =
+    (¬ IsRefusal (readVerdict s bytes count table)) × (readCtu (switchesOf s) (leftSet s table) (upperSet s table) (binsOf bytes count) ≡ got q [])
+Computed (refuses s table bytes count n) = IsRefusal (readVerdict s bytes count table) × (numberIn (readVerdict s bytes count table) ≡ n)
+Computed (becomes p c before after) = filteredPlane p (everywhere (ofLuma c)) 0 before ≡ after
+Computed (waits s k planes marks table n) =
+    IsRefusal (filterVerdict s 0 k planes planes marks table) × (numberIn (filterVerdict s 0 k planes planes marks table) ≡ n)
 
-  refuses : IsRefusal (readVerdict s bytes count table) → Refuses s table bytes count (numberIn (readVerdict s bytes count table))
-  refuses r = refused-with (readVerdict s bytes count table) r
+numbered : {rs : List Reason} (v : Verdict rs) {n : ℕ} → IsRefusal v → numberIn v ≡ n → First rs n
+numbered {rs} v r e = subst (First rs) e (refused-with v r)
 
-pub ten : Ten
-unfolding definitions
-ten = record {
-  magnitude-0 = refl;
-  magnitude-3 = refl;
-  magnitude-7 = refl;
-  off = reads one empty (0 ∷ []) 1 (λ h. h) refl;
-  edge = reads one empty (227 ∷ 64 ∷ []) 11 (λ h. h) refl;
-  edge-again = reads one empty (227 ∷ 95 ∷ []) 11 (λ h. h) refl;
-  early = refuses one empty (227 ∷ 64 ∷ []) 10 tt;
-  remain = refuses one empty (227 ∷ 64 ∷ []) 12 tt;
-  above = refuses one empty (227 ∷ 64 ∷ []) 17 tt;
-  band = reads one empty (156 ∷ 175 ∷ 0 ∷ []) 17 (λ h. h) refl;
-  banded = refl;
-  edged = refl;
-  upper-limit = refl;
-  lower-limit = refl;
-  left = reads (due 32 16 1) (encodeEntry A ++ encodeEntry allOff) (128 ∷ []) 1 (λ h. h) refl;
-  upper = reads (due 32 32 3) (encodeEntry allOff ++ (encodeEntry A ++ (encodeEntry B ++ encodeEntry allOff))) (64 ∷ []) 2 (λ h. h) refl;
-  waits = refused-with (filterVerdict (due 32 16 2) 0 0 (plane 512) (plane 512) (1 ∷ 0 ∷ []) (encodeEntry allOff ++ encodeEntry allOff)) tt;
+shown : (c : Case) → Computed c → Holds c
+shown (magnitude depth v bins) e = e
+shown (reads s table bytes count q) (c, e) = record {
+  clear = accepted (readVerdict s bytes count table) c;
+  means = got-is-meant (switchesOf s) (leftSet s table) (upperSet s table) (binsOf bytes count) e;
+  read = e;
 }
+shown (refuses s table bytes count n) (r, e) = numbered (readVerdict s bytes count table) r e
+shown (becomes p c before after) e = e
+shown (waits s k planes marks table n) (r, e) = numbered (filterVerdict s 0 k planes planes marks table) r e
+
+abbrev AllComputed : List (ℕ × Case) → Type 0
+AllComputed [] = Unit {0}
+AllComputed (row ∷ rows) = Computed (row .1) × AllComputed rows
+
+all-shown : (rows : List (ℕ × Case)) → AllComputed rows → Every rows
+all-shown [] h = tt
+all-shown (row ∷ rows) h = (shown (row .1) (h .0), all-shown rows (h .1))
+
+pub every : Every table
+unfolding definitions
+every =
+    all-shown table
+    (refl, (refl, (refl, ((λ h. h, refl), ((λ h. h, refl), ((λ h. h, refl), ((tt, refl), ((tt, refl), ((tt, refl), ((λ h. h, refl), (refl, (refl, (refl, (refl, ((λ h. h, refl), ((λ h. h, refl), ((tt, refl), (refl, (refl, (refl, (refl, (refl, (refl, (refl, (refl, (refl, (refl, (refl, (refl, (refl, (refl, ((λ h. h, refl), ((λ h. h, refl), ((λ h. h, refl), tt))))))))))))))))))))))))))))))))))

@@ -1,8 +1,7 @@
 -- Decisions that compute: of sums, of bounded searches, and of a list of reasons, of which the first that holds is found.
-use mathlib.Core.Path.{_≡_, refl, subst, ap}
-use mathlib.Core.Bool.{Bool, true, false}
+use mathlib.Core.Path.{_≡_, refl, subst}
 use mathlib.Core.List.{List, [], _∷_, _++_}
-use mathlib.Core.Logic.{_⊎_, inl, inr, Dec·and, Dec·not}
+use mathlib.Core.Logic.{_⊎_, inl, inr}
 use Prim.Native.Nat.{ℕ, zero, suc, _<_}
 use native.Mathlib.Decide.{ℕ-discrete}
 use native.Mathlib.Nat.{not-suc-le-zero, le-refl}

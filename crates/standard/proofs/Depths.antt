@@ -1,9 +1,10 @@
 -- The depth of a component, and what follows from it: the largest magnitude M, and how far offsets are shifted.
 -- One law says that M, shifted, is below the sample range, at every depth.
 use mathlib.Core.Path.{_≡_, refl, ap}
-use Prim.Native.Nat.{ℕ, _+_, _-_, _*_, _^_, _≤_, _<_, min}
-use native.Mathlib.Nat.{lt-of-lt-of-le}
+use Prim.Native.Nat.{ℕ, _+_, _-_, _*_, _%_, _^_, _≤_, _<_, min}
+use native.Mathlib.Nat.{one-mul, mod-eq-of-lt, lt-of-le-of-lt, lt-of-lt-of-le}
 use native.Mathlib.Omega.{arith}
+use lib.Dec.{lit<}
 use lib.Pow.{pow-pos, pow-mono, shl-lt}
 use Rattle.standard.specs.declared.Picture.{Picture}
 use Rattle.standard.specs.Picture.{Rules, depthOf}
@@ -24,6 +25,11 @@ pub no-shift : (p : Picture) (i : ℕ) → depthOf p i ≤ 10 → shiftOf p i �
 unfolding shiftOf
 no-shift p i h = omega arith
 
+-- ---- a power of two, as code has it: 1 shifted, in 32 bits
+
+pub one-shifted : {d : ℕ} → d ≤ 16 → (1 * 2 ^ d) % 4294967296 ≡ 2 ^ d
+one-shifted h = rw one-mul (mod-eq-of-lt (lt-of-le-of-lt (pow-mono h) (lit< tt)))
+
 -- ---- the largest magnitude
 
 pub largest-monotone : {d e : ℕ} → d ≤ e → largest d ≤ largest e
@@ -31,10 +37,6 @@ unfolding largest
 largest-monotone {d} {e} h =
     let g : min d 10 - 5 ≤ min e 10 - 5 = omega arith in
     omega (arith, pow-mono g)
-
-pub largest-is-0 : {d : ℕ} → d ≤ 5 → largest d ≡ 0
-unfolding largest
-largest-is-0 {d} h = let e : min d 10 - 5 ≡ 0 = omega arith in ap (λ (n : ℕ). 2 ^ n - 1) e
 
 pub largest-is-31 : {d : ℕ} → 10 ≤ d → largest d ≡ 31
 unfolding largest

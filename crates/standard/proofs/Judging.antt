@@ -2,9 +2,8 @@
 use mathlib.Core.Path.{_≡_, refl, ap, ap₂}
 use mathlib.Core.Bool.{Bool, true, false}
 use mathlib.Core.List.{List, [], _∷_}
-use mathlib.Core.Logic.{_⊎_, inl, inr, Dec·and, Dec·not}
-use mathlib.Core.Option.{Option, some, none}
-use Prim.Native.Nat.{ℕ, zero, suc, _+_, _%_, _/_, _≤_, _<_}
+use mathlib.Core.Logic.{Dec·and}
+use Prim.Native.Nat.{ℕ, zero, suc, _+_, _%_, _/_}
 use native.Mathlib.Decide.{ℕ-discrete, decLe, decLt}
 use lib.IntN.{ℤ, pos, negsuc, natAbs}
 use Rattle.standard.specs.declared.Picture.{Picture}

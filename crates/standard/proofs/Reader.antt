@@ -3,19 +3,12 @@
 use mathlib.Core.Path.{_≡_, refl, sym, ap, _∙_, subst}
 use mathlib.Core.Bool.{Bool}
 use mathlib.Core.List.{List, [], _∷_, _++_, append-assoc, append-nil}
-use mathlib.Core.Option.{Option, some, none}
+use mathlib.Core.Option.{Option}
 use Rattle.standard.specs.declared.CtuSet.{CtuSet}
-use Rattle.standard.specs.declared.Near.{Near}
-use Rattle.standard.specs.declared.Near.the-variants.{Nothing, Set}
 use Rattle.standard.specs.declared.Switches.{Switches}
 use Rattle.standard.specs.Means.{Means, Early, Remain}
 use Rattle.standard.proofs.Codes.{Got, got, short, impossible, never}
 use Rattle.standard.proofs.Ctu.{ctuCode}
-
--- a neighbour as the code has it: its set, where a merge may reach it
-abbrev pub setOf : Near → Option CtuSet
-setOf Nothing = none
-setOf (Set q) = some q
 
 -- the set at the head of some bins, and the bins beyond it
 unfoldable pub readCtu : Switches → Option CtuSet → Option CtuSet → List Bool → Got CtuSet

@@ -4,7 +4,7 @@ use mathlib.Core.Bool.{Bool, true, false}
 use mathlib.Core.List.{List, [], _∷_, _++_}
 use mathlib.Core.Logic.{_⊎_, inl, inr, Dec·and, Dec·not}
 use mathlib.Core.Option.{Option, some, none}
-use Prim.Native.Nat.{ℕ, zero, suc, _+_, _-_, _*_, _^_, _≤_, _<_}
+use Prim.Native.Nat.{ℕ, _+_, _-_, _*_, _^_, _≤_, _<_}
 use native.Mathlib.Decide.{ℕ-discrete, decLe, decLt}
 use native.Mathlib.Omega.{arith}
 use lib.ListN.{length, getD}
@@ -20,7 +20,6 @@ use Rattle.standard.specs.Bins.{binsOf}
 use Rattle.standard.specs.Means.{notTaken, Means, Early, Remain, Shortest}
 use Rattle.standard.specs.Samples.{at, Waits, Scans}
 use Rattle.standard.specs.Table.{entrySize, encodeEntry, entry, Sound, switchesAt, stored, offsetsAt}
-use Rattle.standard.specs.Refusals.{Reason, First, Clear}
 use Rattle.standard.specs.Reasons.{Planes, planeOf, PlanesFit, MarksFit, TableFits, markCount, markOf, area, leftSet, upperSet, Copies, UnitIsDue, ReachedOutsideTheRules, NeighbourOutsideTheRules, SomeWaited}
 use Rattle.standard.specs.Reasons.{descriptionReasons, lengthReasons, stateReasons, lentReasons, callReasons, dueReasons, blockReasons, countReasons, binsReasons, setReasons, samplesReasons, readyReasons, storedReasons, marksReasons}
 use Rattle.standard.specs.Reasons.{openReasons, readReasons, writeReasons, deliverReasons, filterReasons, rowsReasons}
@@ -28,7 +27,7 @@ use Rattle.standard.specs.Reasons as reasons
 use Rattle.standard.proofs.Decisions.{differ, by-iff, or?, some?, Verdict, Decided, both?, judge}
 use Rattle.standard.proofs.Rasters.{inside?}
 use Rattle.standard.proofs.Seeing.{waits-there}
-use Rattle.standard.proofs.Judging.{rules?, adjacent?, same-set?, valid?, same-bytes?}
+use Rattle.standard.proofs.Judging.{rules?, adjacent?, valid?, same-bytes?}
 use Rattle.standard.proofs.Spelling.{Spelling, shortest, unspelled, spellOut}
 use Rattle.standard.proofs.Reader.{Heard, meant, early, remain, hear, meant-not-early, meant-not-remain, early-not-remain}
 use Rattle.standard.proofs.Entries.{stored-sound}

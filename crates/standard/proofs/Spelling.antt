@@ -3,7 +3,7 @@ use mathlib.Core.Path.{_≡_, refl, ap}
 use mathlib.Core.Bool.{Bool, true, false}
 use mathlib.Core.List.{List, [], _∷_, _++_}
 use mathlib.Core.Option.{Option, some, none}
-use Prim.Native.Nat.{ℕ, zero, suc, _≤_}
+use Prim.Native.Nat.{_≤_}
 use native.Mathlib.Omega.{arith}
 use lib.ListN.{length, length-append}
 use Rattle.standard.specs.declared.Offsets.{Offsets}
@@ -21,7 +21,8 @@ pub data Spelling (s : Switches) (left up : Option CtuSet) (q : CtuSet) : Type 0
   shortest : (bins : List Bool) → Shortest s left up q bins → Spelling s left up q
   unspelled : ((bins : List Bool) → ¬ Means s left up q bins) → Spelling s left up q
 
-is-it? : (o : Option CtuSet) (q : CtuSet) → Dec (o ≡ some q)
+-- whether a neighbour is there, and its set is q
+unfoldable pub is-it? : (o : Option CtuSet) (q : CtuSet) → Dec (o ≡ some q)
 unfolding same-set?
 is-it? none q = no (λ e. differ (cc))
 is-it? (some a) q = by-iff (λ e. ap some e) (λ e. cc) (same-set? a q)

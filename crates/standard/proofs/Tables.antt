@@ -4,7 +4,7 @@ use mathlib.Core.Path.{_≡_, refl, sym, ap, _∙_, subst}
 use mathlib.Core.Bool.{Bool, true, false, _&&_}
 use mathlib.Core.List.{List, [], _∷_}
 use mathlib.Core.Option.{some}
-use Prim.Native.Nat.{ℕ, zero, suc, _+_, _-_, _<_}
+use Prim.Native.Nat.{ℕ, zero, suc, _+_, _-_, _%_, _<_}
 use native.Mathlib.Nat.{add-zero, zero-add, add-suc, suc-add, le-of-suc-le-suc, not-suc-le-zero}
 use native.Mathlib.Decide.{decLt}
 use native.Mathlib.Omega.{arith}
@@ -77,9 +77,9 @@ steps-negate class = opposite→ (stepsOf class) (go (decLt class 4))
 
 -- ---- the categories
 
+-- the category of the negated sum: 1 and 4, and 2 and 3, change places
 abbrev pub mirror : ℕ → ℕ
-mirror zero = 0
-mirror (suc c) = 5 - suc c
+mirror c = (5 - c) % 5
 
 mirrors : ℕ → ℕ → Bool
 mirrors n c = eqb (getD categories (4 - n) 0) (mirror c)

@@ -1,7 +1,7 @@
 -- The picture (document 01, "The picture"; H.265 6.2 and 6.3.1): its components, planes and CTBs, and the rules of a description.
 -- Components are numbered 0 luma, 1 Cb, 2 Cr; CTUs, and the CTBs of each component, in raster order.
 use mathlib.Core.Path.{_≡_}
-use mathlib.Core.Bool.{Bool, true, false, cond}
+use mathlib.Core.Bool.{false, cond}
 use mathlib.Core.Logic.{_⊎_}
 use mathlib.Core.Option.{Option, some, none}
 use Prim.Native.Nat.{ℕ, zero, suc, _+_, _-_, _*_, _/_, _%_, _≤_, _<_, min}

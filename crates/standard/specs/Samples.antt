@@ -1,7 +1,7 @@
 -- Sample adaptive offset (H.265 8.7.3): the filtered sample at each place of a plane, made from the deblocked plane.
 -- A plane is the list of its samples, row after row. Subtractions are those of whole numbers.
 use mathlib.Core.Path.{_≡_}
-use mathlib.Core.Bool.{Bool, true, false, cond, _&&_}
+use mathlib.Core.Bool.{Bool, false, cond, _&&_}
 use mathlib.Core.List.{List, [], _∷_}
 use mathlib.Core.Logic.{_⊎_}
 use mathlib.Core.Option.{Option, some, none}

@@ -72,12 +72,6 @@ pub struct CtuSet {
     pub cr: Offsets,
 }
 
-// A neighbour that a merge may reach, with its set; or there is none.
-pub enum Near {
-    Nothing,
-    Set(CtuSet),
-}
-
 // What the bins of a CTU and the rules of its set depend on: the two switches, and the bit depth of
 // each component, which decides M.
 pub struct Switches {

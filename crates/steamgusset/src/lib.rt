@@ -4,7 +4,7 @@
 // The state crosses as numbers, each at the place that is named below. A set crosses as its bytes. Each function answers
 // 0, or the number of its refusal; what else it has to say it leaves in lent memory. A refusal leaves all that is lent as
 // it was.
-ghost use Prim.Native.Nat.{_≤_, _<_};
+ghost use Prim.Native.Nat.{_<_};
 ghost use mathlib.Core.Path.{_≡_};
 ghost use Rattle.standard.specs.Picture.{Rules};
 ghost use Rattle.standard.specs.Refusals.{Tells};
@@ -262,8 +262,8 @@ pub extern "C" fn sg_finished_rows<'a>(
     match a {
         RowsAnswer::Refused(r) => r.number(),
         RowsAnswer::Rows(n) => {
-            let part = finishing::finished_rows(s, i, y, cb, cr, marks);
-            *finished = [n, part.len()];
+            let samples = n * geometry::plane_width(s.picture, i);
+            *finished = [n, samples];
             0
         }
     }

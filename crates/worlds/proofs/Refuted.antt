@@ -2,7 +2,7 @@
 use mathlib.Core.Path.{_≡_, refl, sym, ap, subst}
 use mathlib.Core.List.{[], _∷_}
 use mathlib.Core.Logic.{inl, inr}
-use Prim.Native.Nat.{_*_, _<_, min}
+use Prim.Native.Nat.{_*_, min}
 use native.Mathlib.Omega.{arith}
 use lib.Dec.{lit<, lit≤}
 use lib.ListN.{replicate}
@@ -16,6 +16,7 @@ use Rattle.standard.proofs.Reader.{meant-is-got}
 use Rattle.promises.specs.World.{Read, Filter, Answer, refused, done, set-read, bins-written, rows, Accepted, Result}
 use Rattle.promises.specs.Demands.{Demand1, Demand2, Demand3}
 use Rattle.promises.specs.Ours.{verdictOf}
+use Rattle.promises.proofs.Second.{reads-clear, reads-as-meant}
 use Rattle.worlds.specs.Wrong.{refusesEverything, readsAsOff, onlyMarks, neverWrites, firstBlockOnly, inventedCount, inventedRows, trustsTheCount, readsPastTheCount, filtersInPlace, waitsForOwnOnly}
 use Rattle.worlds.proofs.Small.{computing, deciding, apart, lives, edgy, edgyBytes, edgyCount, own8, before8, opened8, ready8, calls8, own24, before24, half24, calls24, tall24, lengths8, lengths24, due8, means-edgy}
 
@@ -26,7 +27,7 @@ accepting e h = subst (λ (r : Result). Accepted (r .answer)) (sym e) h
 
 pub refuses-everything : Demand2 refusesEverything → ⊥
 unfolding refusesEverything
-refuses-everything d = accepting (d .reads edgyBytes edgyCount opened8 edgy due8 (lit≤ tt) means-edgy) tt
+refuses-everything d = accepting (d .reads edgyBytes edgyCount opened8 (reads-clear edgyBytes edgyCount opened8 due8 (lit≤ tt) means-edgy) .2) tt
 
 -- whether the set read has luma off
 abbrev LumaOff : Answer → Type 0
@@ -39,7 +40,7 @@ LumaOff (rows n part) = ⊥
 pub reads-as-off : Demand2 readsAsOff → ⊥
 unfolding readsAsOff computing
 reads-as-off d =
-    let e : set-read allOff ≡ set-read edgy = ap (λ (r : Result). r .answer) (d .reads edgyBytes edgyCount opened8 edgy due8 (lit≤ tt) means-edgy) in
+    let e : set-read allOff ≡ set-read edgy = ap (λ (r : Result). r .answer) (reads-as-meant d edgyBytes edgyCount opened8 edgy due8 (lit≤ tt) means-edgy) in
     let z : edgy .luma ≡ Off = subst LumaOff e refl in
     differ (cc)
 

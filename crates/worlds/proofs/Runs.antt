@@ -7,7 +7,6 @@ use lib.IntN.{pos, negsuc}
 use lib.ListN.{replicate}
 use Rattle.standard.specs.declared.CtuSet.{CtuSet}
 use Rattle.standard.specs.declared.Offsets.the-variants.{Off, Edge}
-use Rattle.standard.specs.Samples.{sample}
 use Rattle.standard.specs.Table.{entrySize}
 use Rattle.standard.proofs.Computing.{definitions}
 use Rattle.promises.specs.World.{World, Open, Read, Write, Deliver, Filter, Rows, refused, done, set-read, rows}

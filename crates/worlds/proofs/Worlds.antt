@@ -3,10 +3,9 @@ use mathlib.Core.Path.{_≡_, refl, ap, subst}
 use mathlib.Core.Bool.{Bool, true}
 use mathlib.Core.List.{List, [], _∷_, _++_}
 use mathlib.Core.Logic.{inl, inr, Dec·not}
-use mathlib.Core.Option.{some, none}
+use mathlib.Core.Option.{none}
 use Prim.Native.Nat.{ℕ, suc, _*_, _≤_, _<_}
 use native.Mathlib.Omega.{arith}
-use lib.Dec.{lit≤}
 use lib.IntN.{pos}
 use lib.ListN.{length, getD, replicate}
 use Rattle.standard.specs.declared.Picture.{Picture}
@@ -17,19 +16,21 @@ use Rattle.standard.specs.Sets.{switchesOf}
 use Rattle.standard.specs.Bins.{binsOf}
 use Rattle.standard.specs.Samples.{planeBy}
 use Rattle.standard.specs.Table.{entrySize, encodeEntry}
-use Rattle.standard.specs.Refusals.{First}
-use Rattle.standard.specs.Reasons.{Planes, planeOf, MeansHere, ShortestHere}
+use Rattle.standard.specs.Refusals.{First, Clear}
+use Rattle.standard.specs.Reasons.{Planes, planeOf, leftSet, upperSet, MeansHere, ShortestHere}
 use Rattle.standard.proofs.Cases.{mono, ofLuma, everywhere, case5}
-use Rattle.standard.proofs.Decisions.{differ, Verdict, refusal, clear, numberIn, IsRefusal}
+use Rattle.standard.proofs.Codes.{got}
+use Rattle.standard.proofs.Decisions.{differ, Verdict, refusal, clear, numberIn, IsRefusal, accepted}
 use Rattle.standard.proofs.Judging.{rules?, valid?}
-use Rattle.standard.proofs.Reader.{got-is-meant}
+use Rattle.standard.proofs.Reader.{readCtu, got-is-meant}
 use Rattle.standard.proofs.Refusing.{not-there, sound?, unit-due?}
 use Rattle.standard.proofs.Spelling.{no-bins-at-all}
 use Rattle.promises.specs.World.{World, Call, Open, Read, Write, Deliver, Filter, Rows, refused, set-read, bins-written, rows, Accepted, reasonsOf}
 use Rattle.promises.specs.Contract.{appended, unchanged}
 use Rattle.promises.specs.Demands.{Lengths, Due, Own, Life, Done, after, setsIn, Filters, Delivers}
 use Rattle.promises.specs.Ours.{verdictOf, conclude, ours}
-use Rattle.worlds.proofs.Small.{computing, deciding, holds, fails, all?, filters?, delivers?, happened?, lives, world, edgy, edgyBytes, edgyCount, plane8, own8, before8, opened8, ready8, calls8, own24, before24, half24, calls24, tall24, lengths8, lengths24, due8, means-edgy}
+use Rattle.promises.proofs.Proved.{demand2}
+use Rattle.worlds.proofs.Small.{computing, deciding, holds, fails, all?, filters?, delivers?, happened?, lives, world, edgy, edgyBytes, edgyCount, plane8, own8, before8, opened8, ready8, calls8, own24, before24, half24, calls24, tall24, lengths8, lengths24, means-edgy}
 
 -- ---- demand 1: a call and a world for each of the fourteen numbers
 
@@ -91,11 +92,26 @@ each-number =
 
 -- ---- demand 2: reading
 
--- a unit is due without neighbours (due8), and its bins mean a set and are read as it
-pub read-in-full : (edgyCount ≤ 8 * length edgyBytes) × MeansHere (opened8 .state) (opened8 .table) edgy (binsOf edgyBytes edgyCount)
-    × (ours (Read edgyBytes edgyCount) opened8 ≡ record { answer = set-read edgy; out = []; world = appended opened8 edgy })
+-- no reason holds, and the bins are read as the set that they mean
+abbrev pub ReadAs : World → List ℕ → ℕ → CtuSet → Type 0
+ReadAs w bytes count q =
+    Clear (reasonsOf (Read bytes count) w) × MeansHere (w .state) (w .table) q (binsOf bytes count)
+    × (ours (Read bytes count) w ≡ record { answer = set-read q; out = []; world = appended w q })
+
+-- computed
+read-as : (w : World) (bytes : List ℕ) (count : ℕ) (q : CtuSet) → ¬ IsRefusal (verdictOf (Read bytes count) w)
+    → readCtu (switchesOf (w .state)) (leftSet (w .state) (w .table)) (upperSet (w .state) (w .table)) (binsOf bytes count) ≡ got q []
+    → ours (Read bytes count) w ≡ record { answer = set-read q; out = []; world = appended w q } → ReadAs w bytes count q
+read-as w bytes count q c g e = (
+  accepted (verdictOf (Read bytes count) w) c,
+  got-is-meant (switchesOf (w .state)) (leftSet (w .state) (w .table)) (upperSet (w .state) (w .table)) (binsOf bytes count) g,
+  e,
+)
+
+-- a unit is due without neighbours (due8)
+pub read-in-full : ReadAs opened8 edgyBytes edgyCount edgy
 unfolding computing
-read-in-full = (lit≤ tt, means-edgy, refl)
+read-in-full = read-as opened8 edgyBytes edgyCount edgy (λ h. h) refl refl
 
 -- with a left neighbour, and with an upper one: the second CTU of two
 abbrev pub beside : World
@@ -124,15 +140,36 @@ due-below = record {
   above = λ n. n (holds (sound? (switchesOf (below .state)) (below .table) 0) tt);
 }
 
-pub read-by-merging-left : MeansHere (beside .state) (beside .table) edgy (binsOf (128 ∷ []) 1)
-    × (ours (Read (128 ∷ []) 1) beside ≡ record { answer = set-read edgy; out = []; world = appended beside edgy })
+pub read-by-merging-left : ReadAs beside (128 ∷ []) 1 edgy
 unfolding computing
-read-by-merging-left = (got-is-meant (switchesOf (beside .state)) (some edgy) none (binsOf (128 ∷ []) 1) refl, refl)
+read-by-merging-left = read-as beside (128 ∷ []) 1 edgy (λ h. h) refl refl
 
-pub read-by-merging-up : MeansHere (below .state) (below .table) edgy (binsOf (128 ∷ []) 1)
-    × (ours (Read (128 ∷ []) 1) below ≡ record { answer = set-read edgy; out = []; world = appended below edgy })
+pub read-by-merging-up : ReadAs below (128 ∷ []) 1 edgy
 unfolding computing
-read-by-merging-up = (got-is-meant (switchesOf (below .state)) none (some edgy) (binsOf (128 ∷ []) 1) refl, refl)
+read-by-merging-up = read-as below (128 ∷ []) 1 edgy (λ h. h) refl refl
+
+-- with a left neighbour outside the rules: no unit is due with sound buffers, and yet bins in the full form are read, after the bin of the
+-- merge that is not taken; those of the merge are refused 14
+abbrev pub besideStrange : World
+besideStrange = world (mono 24 8) 1 (replicate 192 7) (replicate 192 1) (0 ∷ 0 ∷ []) (replicate (2 * entrySize) 9)
+
+pub strange-neighbour : ¬ Due besideStrange
+unfolding computing
+strange-neighbour d = d .left (fails (sound? (switchesOf (besideStrange .state)) (besideStrange .table) 0) tt)
+
+pub read-beside-strange : ReadAs besideStrange (122 ∷ 176 ∷ []) 15 edgy
+unfolding computing
+read-beside-strange = read-as besideStrange (122 ∷ 176 ∷ []) 15 edgy (λ h. h) refl refl
+
+-- which is promised
+pub promised-beside-strange : (q : CtuSet) × MeansHere (besideStrange .state) (besideStrange .table) q (binsOf (122 ∷ 176 ∷ []) 15)
+    × (ours (Read (122 ∷ 176 ∷ []) 15) besideStrange ≡ record { answer = set-read q; out = []; world = appended besideStrange q })
+promised-beside-strange = demand2 .reads (122 ∷ 176 ∷ []) 15 besideStrange (read-beside-strange .0)
+
+pub merge-with-strange : First (reasonsOf (Read (128 ∷ []) 1) besideStrange) 14
+    × (ours (Read (128 ∷ []) 1) besideStrange ≡ unchanged (Read (128 ∷ []) 1) besideStrange 14)
+unfolding computing
+merge-with-strange = refusing (Read (128 ∷ []) 1) besideStrange 14 tt refl
 
 -- ---- writing
 

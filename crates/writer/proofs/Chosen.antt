@@ -1,9 +1,9 @@
--- The form that is chosen is the shortest that means the set; a set has bins if and only if one of them means it.
-use mathlib.Core.Path.{_≡_, refl, sym, ap, _∙_, subst}
-use mathlib.Core.Bool.{Bool, true, false, cond}
+-- A shape is chosen, and only one; its bins are the shortest that mean the set; and a set has bins if and only if those of its shape mean it.
+use mathlib.Core.Path.{_≡_, refl, ap}
+use mathlib.Core.Bool.{Bool, true, false}
 use mathlib.Core.List.{List}
-use mathlib.Core.Option.{Option, some, none}
-use Prim.Native.Nat.{ℕ, _≤_, zero-le}
+use mathlib.Core.Option.{Option, some}
+use Prim.Native.Nat.{_≤_, zero-le}
 use lib.ListN.{length}
 use Rattle.standard.specs.declared.Offsets.the-variants.{Off}
 use Rattle.standard.specs.declared.CtuSet.{CtuSet}
@@ -11,41 +11,11 @@ use Rattle.standard.specs.declared.Switches.{Switches}
 use Rattle.standard.specs.Sets.{Ruled, Valid, allOff}
 use Rattle.standard.specs.Means.{either, anyOn, Means, no-bins, merge-left, merge-up, in-full, Shortest}
 use Rattle.standard.specs.Refusals.{Tells}
-use Rattle.standard.proofs.Decisions.{differ}
-use Rattle.standard.proofs.Judging.{same-set?}
 use Rattle.standard.proofs.Ctu.{clash}
-use Rattle.standard.proofs.Spelling.{means-not-empty, up-least, full-least}
-use Rattle.writer.specs.declared.Form.{Form}
-use Rattle.writer.specs.declared.Form.the-variants.{Empty, Left, Up, Full}
-use Rattle.writer.specs.Forms.{Meant, decided, copies, chosen, formBins, written}
-
--- ---- a neighbour that is equal
-
-pub decided-by : {P : Type 0} (d : Dec P) (r : Bool) → Tells P r → r ≡ decided d
-decided-by (yes p) true t = refl
-decided-by (yes p) false t = absurd (t p)
-decided-by (no n) true t = absurd (n t)
-decided-by (no n) false t = refl
-
-pub copies-some : (n q : CtuSet) (r : Bool) → Tells (n ≡ q) r → r ≡ copies (some n) q
-unfolding copies
-copies-some n q r t = decided-by (same-set? n q) r t
-
--- the answer is the equality's
-pub copies-tells : (near : Option CtuSet) (q : CtuSet) → Tells (near ≡ some q) (copies near q)
-unfolding copies
-copies-tells none q = λ e. differ (cc)
-copies-tells (some n) q = by (same-set? n q)
-  where
-    by : (d : Dec (n ≡ q)) → Tells (some n ≡ some q) (decided d)
-    by (yes e) = ap some e
-    by (no k) = λ e. k (cc)
-
-pub is-copy : {near : Option CtuSet} {q : CtuSet} → copies near q ≡ true → near ≡ some q
-is-copy {near} {q} e = subst (Tells (near ≡ some q)) e (copies-tells near q)
-
-pub no-copy : {near : Option CtuSet} {q : CtuSet} → copies near q ≡ false → ¬ (near ≡ some q)
-no-copy {near} {q} e = subst (Tells (near ≡ some q)) e (copies-tells near q)
+use Rattle.standard.proofs.Spelling.{is-it?, means-not-empty, up-least, full-least}
+use Rattle.writer.specs.declared.Shape.{Shape}
+use Rattle.writer.specs.declared.Shape.the-variants.{Empty, Left, Up, Full}
+use Rattle.writer.specs.Forms.{Meant, Choice, shapeBins}
 
 -- ---- the sets that have bins
 
@@ -85,50 +55,70 @@ off-valid {s} {q} e f =
     }
 
 module _ (s : Switches) (left up : Option CtuSet) (q : CtuSet) where
-  pub chosen-bins : {form : Form} → form ≡ chosen s left up q → formBins s left up q form ≡ written s left up q
-  chosen-bins e = ap (formBins s left up q) e
+  -- ---- the choice
 
-  pub chosen-count : {form : Form} {n : ℕ} → n ≡ length (formBins s left up q form) → form ≡ chosen s left up q → n ≡ length (written s left up q)
-  chosen-count c e = c ∙ ap length (chosen-bins e)
+  choice-by : (on : Bool) → anyOn s ≡ on → Dec (left ≡ some q) → Dec (up ≡ some q) → (shape : Shape) × Choice s left up q shape
+  choice-by false off l u = (Empty, off)
+  choice-by true on (yes l) u = (Left, (on, l))
+  choice-by true on (no l) (yes u) = (Up, (on, l, u))
+  choice-by true on (no l) (no u) = (Full, (on, l, u))
 
-  -- the bins of a choice by these three answers
-  abbrev binsBy : Bool → Bool → Bool → List Bool
-  binsBy on l u = formBins s left up q (cond on (cond l Left (cond u Up Full)) Empty)
+  -- there is one ..
+  pub some-choice : (shape : Shape) × Choice s left up q shape
+  some-choice = choice-by (anyOn s) refl (is-it? left q) (is-it? up q)
 
-  means-by : (on l u : Bool) → anyOn s ≡ on → copies left q ≡ l → copies up q ≡ u → HasBins s left up q → Means s left up q (binsBy on l u)
-  unfolding formBins
-  means-by false l u e i j (all-off f g) = no-bins e g refl
-  means-by false l u e i j (as-left f g) = clash f e
-  means-by false l u e i j (as-up f g) = clash f e
-  means-by false l u e i j (ruled v) = no-bins e (valid-off e v) refl
-  means-by true true u e i j h = merge-left e (is-copy i) refl
-  means-by true false true e i j h = merge-up e (is-copy j) refl
-  means-by true false false e i j (all-off f g) = clash e f
-  means-by true false false e i j (as-left f g) = absurd (no-copy i g)
-  means-by true false false e i j (as-up f g) = absurd (no-copy j g)
-  means-by true false false e i j (ruled v) = in-full e v refl
+  -- .. and no other
+  pub one-choice : (a b : Shape) → Choice s left up q a → Choice s left up q b → a ≡ b
+  one-choice Empty Empty c d = refl
+  one-choice Empty Left c d = clash (d .0) c
+  one-choice Empty Up c d = clash (d .0) c
+  one-choice Empty Full c d = clash (d .0) c
+  one-choice Left Empty c d = clash (c .0) d
+  one-choice Left Left c d = refl
+  one-choice Left Up c d = absurd (d .1 (c .1))
+  one-choice Left Full c d = absurd (d .1 (c .1))
+  one-choice Up Empty c d = clash (c .0) d
+  one-choice Up Left c d = absurd (c .1 (d .1))
+  one-choice Up Up c d = refl
+  one-choice Up Full c d = absurd (d .2 (c .2))
+  one-choice Full Empty c d = clash (c .0) d
+  one-choice Full Left c d = absurd (c .1 (d .1))
+  one-choice Full Up c d = absurd (c .2 (d .2))
+  one-choice Full Full c d = refl
 
-  -- a set has bins exactly if these are
-  pub has-means : HasBins s left up q → Means s left up q (written s left up q)
-  has-means h = means-by (anyOn s) (copies left q) (copies up q) refl refl refl h
+  -- ---- its bins
 
-  least-by : (on l u : Bool) → anyOn s ≡ on → copies left q ≡ l → copies up q ≡ u → (other : List Bool) → Means s left up q other → length (binsBy on l u) ≤ length other
-  unfolding formBins
-  least-by false l u e i j other m = zero-le
-  least-by true true u e i j other m = means-not-empty e m
-  least-by true false true e i j other m = up-least s left up q e (no-copy i) (is-copy j) other m
-  least-by true false false e i j other m = full-least s left up q e (no-copy i) (no-copy j) other m
+  -- they mean the set, if any do
+  pub has-means : (shape : Shape) → Choice s left up q shape → HasBins s left up q → Means s left up q (shapeBins s left up q shape)
+  unfolding shapeBins
+  has-means Empty off (all-off e f) = no-bins off f refl
+  has-means Empty off (as-left e f) = clash e off
+  has-means Empty off (as-up e f) = clash e off
+  has-means Empty off (ruled v) = no-bins off (valid-off off v) refl
+  has-means Left (on, l) h = merge-left on l refl
+  has-means Up (on, l, u) h = merge-up on u refl
+  has-means Full (on, l, u) (all-off e f) = clash on e
+  has-means Full (on, l, u) (as-left e f) = absurd (l f)
+  has-means Full (on, l, u) (as-up e f) = absurd (u f)
+  has-means Full (on, l, u) (ruled v) = in-full on v refl
 
-  pub has-shortest : HasBins s left up q → Shortest s left up q (written s left up q)
-  has-shortest h = record { mean = has-means h; least = least-by (anyOn s) (copies left q) (copies up q) refl refl refl }
+  least : (shape : Shape) → Choice s left up q shape → (other : List Bool) → Means s left up q other → length (shapeBins s left up q shape) ≤ length other
+  unfolding shapeBins
+  least Empty off other m = zero-le
+  least Left (on, l) other m = means-not-empty on m
+  least Up (on, l, u) other m = up-least s left up q on l u other m
+  least Full (on, l, u) other m = full-least s left up q on l u other m
 
-  pub written-shortest : {bins : List Bool} → Means s left up q bins → Shortest s left up q (written s left up q)
-  written-shortest m = has-shortest (means-has m)
+  pub has-shortest : (shape : Shape) → Choice s left up q shape → HasBins s left up q → Shortest s left up q (shapeBins s left up q shape)
+  has-shortest shape c h = record { mean = has-means shape c h; least = least shape c }
+
+  pub written-shortest : (shape : Shape) → Choice s left up q shape → {bins : List Bool} → Means s left up q bins → Shortest s left up q (shapeBins s left up q shape)
+  written-shortest shape c m = has-shortest shape c (means-has m)
 
   -- ---- whether it has bins
 
   pub has-meant : HasBins s left up q → Meant s left up q
-  has-meant h = (written s left up q, has-means h)
+  has-meant h = let c = some-choice in (shapeBins s left up q (c .0), has-means (c .0) (c .1) h)
 
   pub unmeant-off : anyOn s ≡ false → ¬ Valid s q → ¬ Meant s left up q
   unmeant-off e n t = by (means-has (t .1))
@@ -139,16 +129,16 @@ module _ (s : Switches) (left up : Option CtuSet) (q : CtuSet) where
       by (as-up f g) = clash f e
       by (ruled v) = n v
 
-  unmeant-on : anyOn s ≡ true → ¬ Valid s q → copies left q ≡ false → copies up q ≡ false → ¬ Meant s left up q
-  unmeant-on e n i j t = by (means-has (t .1))
+  unmeant-on : anyOn s ≡ true → ¬ Valid s q → ¬ (left ≡ some q) → ¬ (up ≡ some q) → ¬ Meant s left up q
+  unmeant-on e n l u t = by (means-has (t .1))
     where
       by : HasBins s left up q → ⊥
       by (all-off f g) = clash e f
-      by (as-left f g) = no-copy i g
-      by (as-up f g) = no-copy j g
+      by (as-left f g) = l g
+      by (as-up f g) = u g
       by (ruled v) = n v
 
   -- where nothing else serves, a merge upwards decides
-  pub meant-by-up : anyOn s ≡ true → ¬ Valid s q → copies left q ≡ false → (r : Bool) → r ≡ copies up q → Tells (Meant s left up q) r
-  meant-by-up e n i true j = has-meant (as-up e (is-copy (sym j)))
-  meant-by-up e n i false j = unmeant-on e n i (sym j)
+  pub meant-by-up : anyOn s ≡ true → ¬ Valid s q → ¬ (left ≡ some q) → (r : Bool) → Tells (up ≡ some q) r → Tells (Meant s left up q) r
+  meant-by-up e n l true u = has-meant (as-up e u)
+  meant-by-up e n l false u = unmeant-on e n l u

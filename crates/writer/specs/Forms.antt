@@ -1,38 +1,36 @@
 -- The bins that are written for a set, whether or not it is within the rules: none, a merge or the full form.
-use mathlib.Core.Bool.{Bool, true, false, cond}
+use mathlib.Core.Path.{_≡_}
+use mathlib.Core.Bool.{Bool, true, false}
 use mathlib.Core.List.{List, [], _∷_, _++_}
 use mathlib.Core.Option.{Option, some, none}
 use Rattle.standard.specs.declared.CtuSet.{CtuSet}
 use Rattle.standard.specs.declared.Switches.{Switches}
 use Rattle.standard.specs.Bins.{full}
 use Rattle.standard.specs.Means.{anyOn, notTaken, Means}
-use Rattle.standard.proofs.Judging.{same-set?}
-use Rattle.writer.specs.declared.Form.{Form}
-use Rattle.writer.specs.declared.Form.the-variants.{Empty, Left, Up, Full}
+use Rattle.writer.specs.declared.Beside.{Beside}
+use Rattle.writer.specs.declared.Beside.the-variants.{Nothing, Set}
+use Rattle.writer.specs.declared.Shape.{Shape}
+use Rattle.writer.specs.declared.Shape.the-variants.{Empty, Left, Up, Full}
+
+-- a neighbour as the code has it: its set, where a merge may reach it
+abbrev pub besideOf : Beside → Option CtuSet
+besideOf Nothing = none
+besideOf (Set q) = some q
 
 -- some bins mean the set
 abbrev pub Meant : Switches → Option CtuSet → Option CtuSet → CtuSet → Type 0
 Meant s left up q = (bins : List Bool) × Means s left up q bins
 
-abbrev pub decided : {P : Type 0} → Dec P → Bool
-decided (yes p) = true
-decided (no n) = false
+-- the shape that writing uses: where a CTU has bins, merge left if the left set is equal, else merge up if the upper set is equal, else the
+-- full form
+abbrev pub Choice : Switches → Option CtuSet → Option CtuSet → CtuSet → Shape → Type 0
+Choice s left up q Empty = anyOn s ≡ false
+Choice s left up q Left = (anyOn s ≡ true) × (left ≡ some q)
+Choice s left up q Up = (anyOn s ≡ true) × (¬ (left ≡ some q)) × (up ≡ some q)
+Choice s left up q Full = (anyOn s ≡ true) × (¬ (left ≡ some q)) × (¬ (up ≡ some q))
 
--- a merge with this neighbour copies q: it is there, and its set is q
-unfoldable pub copies : Option CtuSet → CtuSet → Bool
-unfolding same-set?
-copies none q = false
-copies (some n) q = decided (same-set? n q)
-
--- the form that is chosen: the first of these that serves
-abbrev pub chosen : Switches → Option CtuSet → Option CtuSet → CtuSet → Form
-chosen s left up q = cond (anyOn s) (cond (copies left q) Left (cond (copies up q) Up Full)) Empty
-
-unfoldable pub formBins : Switches → Option CtuSet → Option CtuSet → CtuSet → Form → List Bool
-formBins s left up q Empty = []
-formBins s left up q Left = true ∷ []
-formBins s left up q Up = notTaken left ++ (true ∷ [])
-formBins s left up q Full = notTaken left ++ (notTaken up ++ full s q)
-
-abbrev pub written : Switches → Option CtuSet → Option CtuSet → CtuSet → List Bool
-written s left up q = formBins s left up q (chosen s left up q)
+unfoldable pub shapeBins : Switches → Option CtuSet → Option CtuSet → CtuSet → Shape → List Bool
+shapeBins s left up q Empty = []
+shapeBins s left up q Left = true ∷ []
+shapeBins s left up q Up = notTaken left ++ (true ∷ [])
+shapeBins s left up q Full = notTaken left ++ (notTaken up ++ full s q)

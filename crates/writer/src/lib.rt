@@ -3,25 +3,30 @@
 // cannot hold them all are left as they were. The set need not be within the rules.
 use sink::Put;
 use standard::CtuSet;
-use standard::Near;
 use standard::Offsets;
 use standard::Switches;
 ghost use mathlib.Core.Path.{_≡_};
 ghost use mathlib.Core.List.{_++_};
+ghost use mathlib.Core.Option.{some};
 ghost use Prim.Native.Nat.{_≤_, _<_};
 ghost use lib.IntN.{natAbs};
 ghost use lib.ListN.{length};
 ghost use Rattle.standard.specs.declared.Offsets.the-variants.{Band};
 ghost use Rattle.standard.specs.Bins.{truncated, magnitudes, signBins, typeBins, rest, restOfCr, when, full};
 ghost use Rattle.standard.specs.Means.{notTaken};
-ghost use Rattle.standard.proofs.Reader.{setOf};
 ghost use Rattle.standard.specs.Refusals.{Tells};
 ghost use Rattle.sink.specs.Puts.{Room, Puts};
-ghost use Rattle.writer.specs.Forms.{Meant, copies, chosen, formBins, written};
-ghost use Rattle.writer.specs.Outcome.{Writes};
+ghost use Rattle.writer.specs.Forms.{besideOf, Meant, Choice, shapeBins};
+ghost use Rattle.writer.specs.Outcome.{WritesSet};
 
-// The forms of a CTU's bins.
-pub enum Form {
+// A neighbour that a merge may reach, with its set; or there is none.
+pub enum Beside {
+    Nothing,
+    Set(CtuSet),
+}
+
+// The shapes of a CTU's bins: none, a merge, or the full form.
+pub enum Shape {
     Empty,
     Left,
     Up,
@@ -180,57 +185,57 @@ fn bins_of_full(s: Switches, q: CtuSet) -> usize
         )
 }
 
-fn bins_of_not_taken(near: Near) -> usize
-    ensures { λ r. ⌜ (r ≡ length (notTaken (setOf near))) × (r ≤ 1) ⌝ }
+fn bins_of_not_taken(near: Beside) -> usize
+    ensures { λ r. ⌜ (r ≡ length (notTaken (besideOf near))) × (r ≤ 1) ⌝ }
 {
     match near {
-        Near::Nothing => 0,
-        Near::Set(_) => 1,
+        Beside::Nothing => 0,
+        Beside::Set(_) => 1,
     }
 }
 
-fn bins_of_form(form: Form, s: Switches, left: Near, up: Near, q: CtuSet) -> usize
-    ensures { λ r. ⌜ (r ≡ length (formBins s (setOf left) (setOf up) q form)) × (r ≤ 405) ⌝ }
+fn bins_of_shape(shape: Shape, s: Switches, left: Beside, up: Beside, q: CtuSet) -> usize
+    ensures { λ r. ⌜ (r ≡ length (shapeBins s (besideOf left) (besideOf up) q shape)) × (r ≤ 405) ⌝ }
 {
-    match form {
-        Form::Empty => 0,
-        Form::Left => 1,
-        Form::Up => bins_of_not_taken(left) + 1,
-        Form::Full => bins_of_not_taken(left) + bins_of_not_taken(up) + bins_of_full(s, q),
+    match shape {
+        Shape::Empty => 0,
+        Shape::Left => 1,
+        Shape::Up => bins_of_not_taken(left) + 1,
+        Shape::Full => bins_of_not_taken(left) + bins_of_not_taken(up) + bins_of_full(s, q),
     }
 }
 
-// ---- which form
+// ---- which shape
 
-fn is_copy(near: Near, q: CtuSet) -> bool
-    ensures { λ r. ⌜ r ≡ copies (setOf near) q ⌝ }
+fn is_copy(near: Beside, q: CtuSet) -> bool
+    ensures { λ r. ⌜ Tells (besideOf near ≡ some q) r ⌝ }
 {
     match near {
-        Near::Nothing => false,
-        Near::Set(n) => sets::same_set(n, q),
+        Beside::Nothing => false,
+        Beside::Set(n) => sets::same_set(n, q),
     }
 }
 
 // A merge to the left has one bin, so it goes before a merge upwards, which has two where there is a
 // left neighbour.
-fn choose(s: Switches, left: Near, up: Near, q: CtuSet) -> Form
-    ensures { λ r. ⌜ r ≡ chosen s (setOf left) (setOf up) q ⌝ }
+fn choose(s: Switches, left: Beside, up: Beside, q: CtuSet) -> Shape
+    ensures { λ r. ⌜ Choice s (besideOf left) (besideOf up) q r ⌝ }
 {
     if !geometry::any_on(s) {
-        return Form::Empty;
+        return Shape::Empty;
     }
     if is_copy(left, q) {
-        return Form::Left;
+        return Shape::Left;
     }
     if is_copy(up, q) {
-        return Form::Up;
+        return Shape::Up;
     }
-    Form::Full
+    Shape::Full
 }
 
 // Whether some bins mean the set: it is within the rules, or a merge copies it.
-pub fn has_bins(s: Switches, left: Near, up: Near, q: CtuSet) -> bool
-    ensures { λ r. ⌜ Tells (Meant s (setOf left) (setOf up) q) r ⌝ }
+pub fn has_bins(s: Switches, left: Beside, up: Beside, q: CtuSet) -> bool
+    ensures { λ r. ⌜ Tells (Meant s (besideOf left) (besideOf up) q) r ⌝ }
 {
     if sets::is_valid(s, q) {
         return true;
@@ -247,13 +252,13 @@ pub fn has_bins(s: Switches, left: Near, up: Near, q: CtuSet) -> bool
 
 // ---- the bins
 
-fn put_not_taken(c: Put, out: &mut [u8], near: Near) -> Put
-    requires { ⌜ Room (c .at) (length (notTaken (setOf near))) (now out) ⌝ }
-    ensures { λ r. ⌜ Puts (c .at) (notTaken (setOf near)) (now (out .entry)) (now (out .exit)) (r .at) ⌝ }
+fn put_not_taken(c: Put, out: &mut [u8], near: Beside) -> Put
+    requires { ⌜ Room (c .at) (length (notTaken (besideOf near))) (now out) ⌝ }
+    ensures { λ r. ⌜ Puts (c .at) (notTaken (besideOf near)) (now (out .entry)) (now (out .exit)) (r .at) ⌝ }
 {
     match near {
-        Near::Nothing => c,
-        Near::Set(_) => c.bits(out, 1, 0),
+        Beside::Nothing => c,
+        Beside::Set(_) => c.bits(out, 1, 0),
     }
 }
 
@@ -277,18 +282,26 @@ fn put_full(c: Put, out: &mut [u8], s: Switches, q: CtuSet) -> Put
     )
 }
 
-fn put_form(c: Put, out: &mut [u8], form: Form, s: Switches, left: Near, up: Near, q: CtuSet) -> Put
-    requires { ⌜ Room (c .at) (length (formBins s (setOf left) (setOf up) q form)) (now out) ⌝ }
-    ensures { λ r. ⌜ Puts (c .at) (formBins s (setOf left) (setOf up) q form) (now (out .entry)) (now (out .exit)) (r .at) ⌝ }
+fn put_shape(
+    c: Put,
+    out: &mut [u8],
+    shape: Shape,
+    s: Switches,
+    left: Beside,
+    up: Beside,
+    q: CtuSet,
+) -> Put
+    requires { ⌜ Room (c .at) (length (shapeBins s (besideOf left) (besideOf up) q shape)) (now out) ⌝ }
+    ensures { λ r. ⌜ Puts (c .at) (shapeBins s (besideOf left) (besideOf up) q shape) (now (out .entry)) (now (out .exit)) (r .at) ⌝ }
 {
-    match form {
-        Form::Empty => c,
-        Form::Left => c.bits(out, 1, 1),
-        Form::Up => {
+    match shape {
+        Shape::Empty => c,
+        Shape::Left => c.bits(out, 1, 1),
+        Shape::Up => {
             let c1 = put_not_taken(c, out, left);
             c1.bits(out, 1, 1)
         }
-        Form::Full => {
+        Shape::Full => {
             let c1 = put_not_taken(c, out, left);
             let c2 = put_not_taken(c1, out, up);
             put_full(c2, out, s, q)
@@ -296,14 +309,14 @@ fn put_form(c: Put, out: &mut [u8], form: Form, s: Switches, left: Near, up: Nea
     }
 }
 
-pub fn write_set(s: Switches, left: Near, up: Near, q: CtuSet, out: &mut [u8]) -> Wrote
-    ensures { λ r. ⌜ Writes (written s (setOf left) (setOf up) q) (now (out .entry)) (now (out .exit)) r ⌝ }
+pub fn write_set(s: Switches, left: Beside, up: Beside, q: CtuSet, out: &mut [u8]) -> Wrote
+    ensures { λ r. ⌜ WritesSet s (besideOf left) (besideOf up) q (now (out .entry)) (now (out .exit)) r ⌝ }
 {
-    let form = choose(s, left, up, q);
-    let n = bins_of_form(form, s, left, up, q);
+    let shape = choose(s, left, up, q);
+    let n = bins_of_shape(shape, s, left, up, q);
     if (n + 7) / 8 > out.len() {
         return Wrote::NoRoom;
     }
-    put_form(Put { at: 0 }, out, form, s, left, up, q);
+    put_shape(Put { at: 0 }, out, shape, s, left, up, q);
     Wrote::Bins(n)
 }

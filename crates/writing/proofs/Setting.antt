@@ -1,12 +1,9 @@
 -- From what was found beside the CTU and what the writer did to the answer: the reasons in their order, or the bins at the front.
 use mathlib.Core.Path.{_≡_, refl, subst₂}
-use mathlib.Core.Bool.{Bool}
 use mathlib.Core.List.{List}
 use mathlib.Core.Logic.{inl, inr, ⊎-elim}
 use mathlib.Core.Option.{Option}
-use Prim.Native.Nat.{ℕ, _*_, _≤_, _<_}
-use native.Mathlib.Omega.{arith}
-use lib.ListN.{length}
+use Prim.Native.Nat.{ℕ}
 use Rattle.standard.specs.declared.CtuSet.{CtuSet}
 use Rattle.standard.specs.declared.State.{State}
 use Rattle.standard.specs.declared.Refusal.the-variants.{NoBins, NoRoom, Stored}
@@ -15,13 +12,13 @@ use Rattle.standard.specs.declared.WriteAnswer.the-variants.{Bins, Refused}
 use Rattle.standard.specs.Picture.{mergeLeft, mergeUp}
 use Rattle.standard.specs.declared.Switches.{Switches}
 use Rattle.standard.specs.Sets.{switchesOf}
-use Rattle.standard.specs.Means.{Means, Shortest}
 use Rattle.standard.specs.Reasons.{leftSet, upperSet, NeighbourOutsideTheRules, setReasons}
 use Rattle.standard.specs.Contracts.{WriteDecides, Wrote}
 use Rattle.writer.specs.declared.Wrote.the-variants as wrote
-use Rattle.writer.specs.Forms.{Meant, written}
-use Rattle.writer.specs.Outcome.{Writes}
-use Rattle.writer.proofs.Chosen.{written-shortest}
+use Rattle.writer.specs.Forms.{Meant, shapeBins}
+use Rattle.writer.specs.Outcome.{WritesSet}
+use Rattle.writer.proofs.Chosen.{means-has, written-shortest}
+use Rattle.writer.proofs.Outcomes as outcomes
 use Rattle.writing.specs.Writing.{SetWritten}
 
 -- ---- the set's own reasons
@@ -30,14 +27,16 @@ module _ (s : Switches) (left up : Option CtuSet) (q : CtuSet) (out out′ : Lis
   pub no-bins : ¬ Meant s left up q → out′ ≡ out → SetWritten s left up q out out′ (Refused NoBins)
   no-bins n same = (inl (λ bins m. n (bins, m), refl), same)
 
-  pub no-room : Meant s left up q → Writes (written s left up q) out out′ wrote.NoRoom → SetWritten s left up q out out′ (Refused NoRoom)
-  no-room (bins, m) (long, same) =
-      (inr (λ none. none bins m, inl ((written s left up q, written-shortest s left up q m, long), refl)), same)
+  pub no-room : Meant s left up q → WritesSet s left up q out out′ wrote.NoRoom → SetWritten s left up q out out′ (Refused NoRoom)
+  no-room (bins, m) w =
+      (inr (λ none. none bins m, inl (outcomes.no-room s left up q (means-has m) out w, refl)), w .writes .1)
 
-  pub spelled : {n : ℕ} → Meant s left up q → Writes (written s left up q) out out′ (wrote.Bins n) → SetWritten s left up q out out′ (Bins n)
-  spelled (bins, m) (fits, number, bytes) =
-      let w = written-shortest s left up q m in
-      ((λ none. none bins m, (λ t. let e = t .1 .least (written s left up q) (w .mean) in omega (arith, t .2), tt)), (written s left up q, w, number, bytes))
+  pub spelled : {n : ℕ} → Meant s left up q → WritesSet s left up q out out′ (wrote.Bins n) → SetWritten s left up q out out′ (Bins n)
+  spelled (bins, m) w =
+      let shortest = written-shortest s left up q (w .shape) (w .choice) m in (
+        (λ none. none bins m, (outcomes.room s left up q (means-has m) out w, tt)),
+        (shapeBins s left up q (w .shape), shortest, w .writes .1, w .writes .2),
+      )
 
 -- ---- with those of the neighbours
 

@@ -11,18 +11,18 @@ use Rattle.standard.specs.declared.WriteAnswer.{WriteAnswer}
 use Rattle.standard.specs.declared.Switches.{Switches}
 use Rattle.standard.specs.Bins.{packed}
 use Rattle.standard.specs.Means.{Means, Shortest}
-use Rattle.standard.proofs.Reader.{setOf}
 use Rattle.standard.specs.Table.{storedAt}
 use Rattle.standard.specs.Refusals.{Reason, _if_}
 use Rattle.standard.specs.Reasons.{NeighbourOutsideTheRules}
 use Rattle.standard.specs.Contracts.{WriteDecides}
-use Rattle.writing.specs.declared.Side.{Side}
-use Rattle.writing.specs.declared.Side.the-variants.{Near, Bad}
+use Rattle.writer.specs.Forms.{besideOf}
+use Rattle.writing.specs.declared.FoundBeside.{FoundBeside}
+use Rattle.writing.specs.declared.FoundBeside.the-variants.{Sound, Bad}
 
 -- the neighbour's set, which is within the rules, or none; or an entry outside the rules
-abbrev pub Beside : State → List ℕ → Option ℕ → Side → Type 0
-Beside s table k (Near n) = (setOf n ≡ storedAt table k) × (¬ NeighbourOutsideTheRules s table k)
-Beside s table k Bad = NeighbourOutsideTheRules s table k
+abbrev pub FindsBeside : State → List ℕ → Option ℕ → FoundBeside → Type 0
+FindsBeside s table k (Sound n) = (besideOf n ≡ storedAt table k) × (¬ NeighbourOutsideTheRules s table k)
+FindsBeside s table k Bad = NeighbourOutsideTheRules s table k
 
 -- the reasons of the set alone, where the neighbours' sets are these
 abbrev pub spellingReasons : Switches → Option CtuSet → Option CtuSet → CtuSet → List ℕ → List Reason

@@ -1,48 +1,49 @@
 // Write: a set becomes the shortest bins that mean it, is stored, and the CTU after it is due.
+use geometry::Near;
 use lent::Bytes;
 use lent::Lent;
 use lent::Planes;
 use sets::Found;
 use standard::Answer;
 use standard::CtuSet;
-use standard::Near;
 use standard::Refusal;
 use standard::State;
 use standard::Switches;
 use standard::WriteAnswer;
 use standard::WriteOutcome;
+use writer::Beside;
 use writer::Wrote;
 ghost use mathlib.Core.Path.{_≡_};
-ghost use Rattle.standard.proofs.Reader.{setOf};
 ghost use Rattle.standard.specs.Reasons.{setReasons};
 ghost use Rattle.standard.specs.Contracts.{WriteDecides, Wrote as AtTheFront, WriteEnsures};
 ghost use Rattle.geometry.specs.Geometry.{nearOf};
 ghost use Rattle.lent.specs.Due.{Due, InTable};
-ghost use Rattle.writing.specs.Writing.{Beside, SetWritten};
+ghost use Rattle.writer.specs.Forms.{besideOf};
+ghost use Rattle.writing.specs.Writing.{FindsBeside, SetWritten};
 
 // What stands beside the CTU: the neighbour's set or none, or bytes that are no set within the rules.
-enum Side {
-    Near(Near),
+enum FoundBeside {
+    Sound(Beside),
     Bad,
 }
 
-fn beside(state: State, table: &[u8], k: geometry::Near) -> Side
+fn beside(state: State, table: &[u8], k: Near) -> FoundBeside
     requires { ⌜ InTable (now table) (nearOf k) ⌝ }
-    ensures { λ r. ⌜ Beside state (now (table .entry)) (nearOf k) r ⌝ }
+    ensures { λ r. ⌜ FindsBeside state (now (table .entry)) (nearOf k) r ⌝ }
 {
     let s = geometry::switches_of(state);
     match k {
-        geometry::Near::Nothing => Side::Near(Near::Nothing),
-        geometry::Near::At(n) => match sets::get_set(s, table, n as usize) {
-            Found::Bad => Side::Bad,
-            Found::Set(q) => Side::Near(Near::Set(q)),
+        Near::Nothing => FoundBeside::Sound(Beside::Nothing),
+        Near::At(n) => match sets::get_set(s, table, n as usize) {
+            Found::Bad => FoundBeside::Bad,
+            Found::Set(q) => FoundBeside::Sound(Beside::Set(q)),
         },
     }
 }
 
 // The reasons of the set, and its bins where none holds.
-fn set_written(s: Switches, left: Near, up: Near, q: CtuSet, out: &mut [u8]) -> WriteAnswer
-    ensures { λ r. ⌜ SetWritten s (setOf left) (setOf up) q (now (out .entry)) (now (out .exit)) r ⌝ }
+fn set_written(s: Switches, left: Beside, up: Beside, q: CtuSet, out: &mut [u8]) -> WriteAnswer
+    ensures { λ r. ⌜ SetWritten s (besideOf left) (besideOf up) q (now (out .entry)) (now (out .exit)) r ⌝ }
 {
     if !writer::has_bins(s, left, up, q) {
         return WriteAnswer::Refused(Refusal::NoBins);
@@ -61,10 +62,10 @@ fn bins_written(state: State, q: CtuSet, out: &mut [u8], table: &[u8]) -> WriteA
     let l = beside(state, table, geometry::merge_left(state));
     let u = beside(state, table, geometry::merge_up(state));
     match l {
-        Side::Bad => WriteAnswer::Refused(Refusal::Stored),
-        Side::Near(left) => match u {
-            Side::Bad => WriteAnswer::Refused(Refusal::Stored),
-            Side::Near(up) => set_written(geometry::switches_of(state), left, up, q, out),
+        FoundBeside::Bad => WriteAnswer::Refused(Refusal::Stored),
+        FoundBeside::Sound(left) => match u {
+            FoundBeside::Bad => WriteAnswer::Refused(Refusal::Stored),
+            FoundBeside::Sound(up) => set_written(geometry::switches_of(state), left, up, q, out),
         },
     }
 }

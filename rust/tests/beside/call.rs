@@ -43,6 +43,7 @@ pub const CALLS: [(&str, &[(u32, &str)]); 6] = [
 ];
 
 /// The places in it that are spoken of by name.
+pub const OPEN: usize = 0;
 pub const DELIVER: usize = 3;
 pub const FILTER: usize = 4;
 
@@ -54,7 +55,7 @@ impl Call {
     /// Its place in [`CALLS`].
     pub fn place(&self) -> usize {
         match self {
-            Call::Open => 0,
+            Call::Open => OPEN,
             Call::Read { .. } => 1,
             Call::Write { .. } => 2,
             Call::Deliver { .. } => DELIVER,

@@ -3,7 +3,7 @@
 use crate::call::Call;
 use crate::draw::Draw;
 use crate::judge::in_byte;
-use crate::spoil::{above, set_byte, wrong_length};
+use crate::spoil::{above, change_byte, wrong_length};
 use Damage::*;
 use second::generate;
 use second::table::{self, ENTRY_BYTES};
@@ -78,27 +78,38 @@ impl Draw {
         damage
     }
 
-    /// A number whose low bits may still be a sound one.
+    /// A number that may be any, or one whose low bits are still a sound one's.
     pub fn unheld(&mut self, state: &mut State) {
-        let high = self.random().pick(&[1 << 8, 1 << 16, 1 << 31]);
-        let switch = self.random().pick(&[2, 3, 128, 255, high, high | 1, u32::MAX]);
-        match self.random().below(4) {
-            0 => state.format = self.random().pick(&[256, state.format | high, u32::MAX]),
-            1 => state.depth = self.random().pick(&[256, state.depth | high, u32::MAX]),
+        let random = self.random();
+        let high = random.pick(&[1 << 8, 1 << 16, 1 << 31]);
+        let any = random.number() as u32;
+        let byte = random.number() as u32 & 0xFF;
+        let switch = random.pick(&[2, 3, 128, 255, high, high | 1, u32::MAX, any.max(2), byte.max(2)]);
+        match random.below(4) {
+            0 => state.format = random.pick(&[256, state.format | high, u32::MAX, any.max(256), byte + 256]),
+            1 => state.depth = random.pick(&[256, state.depth | high, u32::MAX, any.max(256), byte + 256]),
             2 => state.luma = switch,
             _ => state.chroma = switch,
         }
     }
 
-    /// A number that a field holds and a rule forbids.
+    /// A number that a field holds and a rule forbids; of all bytes some are within the rules.
     pub fn broken(&mut self, state: &mut State) {
         let random = self.random();
+        let any = random.number() as u32;
+        let (byte, odd) = (random.number() as u32 & 0xFF, random.below(9000) as u32 | 1);
         let side = |side: u32| [0, 4, 7, side + 1, side + 4, 8191, 8196, 8200, 1 << 31, u32::MAX - 7, u32::MAX];
+        let is_any = random.once_in(2);
         match random.below(6) {
+            0 if is_any => state.width = random.pick(&[any, odd]),
             0 => state.width = random.pick(&side(state.width & 0xFFFF)),
+            1 if is_any => state.height = random.pick(&[any, odd]),
             1 => state.height = random.pick(&side(state.height & 0xFFFF)),
+            2 if is_any => state.ctb = random.pick(&[any, byte, byte, byte]),
             2 => state.ctb = random.pick(&[0, 1, 8, 15, 17, 24, 48, 63, 65, 128, 272, 1 << 31, u32::MAX]),
+            3 if is_any => state.format = byte,
             3 => state.format = random.pick(&[2, 3, 128, 255]),
+            4 if is_any => state.depth = byte,
             4 => state.depth = random.pick(&[0, 1, 7, 17, 32, 255]),
             _ => (state.format, state.chroma) = (0, 1),
         }
@@ -107,7 +118,8 @@ impl Draw {
     /// Keeps the rules and changes the meaning of all that is lent and stored.
     pub fn other(&mut self, state: &mut State) {
         let random = self.random();
-        let side = |side: u32| [8, side.saturating_add(8).min(8192), side.saturating_sub(8).max(8), 64, 8192];
+        let any = 8 * (1 + random.below(1024) as u32);
+        let side = |side: u32| [8, side.saturating_add(8).min(8192), side.saturating_sub(8).max(8), 64, 8192, any];
         match random.below(8) {
             0 => state.width = random.pick(&side(state.width)),
             1 => state.height = random.pick(&side(state.height)),
@@ -120,12 +132,15 @@ impl Draw {
         }
     }
 
+    /// A CTU of the picture, one near its end, one whose low bits are this one's, or any number.
     fn other_next(&mut self, next: u32) -> u32 {
         let ctus = self.picture().ctus();
-        let any = self.random().below(ctus + 1) as u32;
-        let (step, ctus) = (self.random().pick(&[next.wrapping_add(1), next.wrapping_sub(1)]), ctus as u32);
-        let high = self.random().pick(&[1 << 8, 1 << 16, 1 << 31]);
-        self.random().pick(&[0, step, any, any, ctus, ctus + 1, next | high, u32::MAX])
+        let random = self.random();
+        let near = random.below(ctus + 1) as u32;
+        let (step, ctus) = (random.pick(&[next.wrapping_add(1), next.wrapping_sub(1)]), ctus as u32);
+        let bit = 1 << random.below(32);
+        let any = random.number() as u32;
+        random.pick(&[0, step, near, near, ctus, ctus + 1, next | bit, bit, any, u32::MAX])
     }
 
     /// The block that the call names, if there is one, or else any.
@@ -137,7 +152,7 @@ impl Draw {
         named.filter(exists).unwrap_or(any)
     }
 
-    /// Small and large numbers on the block, on its neighbours, or anywhere.
+    /// Any numbers, small and large ones often, on the block, on its neighbours, or anywhere.
     fn marked(&mut self, call: &Call, marks: &mut [u8]) {
         let picture = self.picture();
         let (component, ctb) = self.near(call);
@@ -147,19 +162,21 @@ impl Draw {
             let place = picture.mark_place(component, neighbour);
             let any = self.random().below(picture.marks());
             let place = self.random().pick(&[own, place, place, any]);
-            let mark = self.random().pick(&[0, 1, 2, 3, 4, 127, 128, 255]);
+            let any = self.random().number() as u8;
+            let mark = self.random().pick(&[0, 1, 2, 3, 4, 127, 128, 255, any, any, any, any]);
             set_if_there(marks, place, mark);
         }
     }
 
     /// Bytes of the block's own entry, of those to the left of the next CTU and above it, or of any.
-    fn stored(&mut self, call: &Call, next: u32, table: &mut [u8]) {
+    pub fn stored(&mut self, call: &Call, next: u32, table: &mut [u8]) {
         let picture = self.picture();
         let reads = matches!(call, Call::Read { .. } | Call::Write { .. });
         let ctu = if reads { (next as usize).min(picture.ctus() - 1) } else { self.near(call).1 };
         let any = self.random().below(picture.ctus());
-        let (left, above) = (picture.left_of(ctu).unwrap_or(any), picture.above(ctu).unwrap_or(any));
-        let entries = if reads { [left, above, any] } else { [ctu, ctu, left] };
+        let (left, above) = (picture.left_of(ctu), picture.above(ctu));
+        let (left, above) = (left.or(above).unwrap_or(any), above.or(left).unwrap_or(any));
+        let entries = if reads { [left, left, above, above, any] } else { [ctu, ctu, ctu, ctu, left] };
         let entry = self.random().pick(&entries);
         if let Some(bytes) = table.get_mut(entry * ENTRY_BYTES..(entry + 1) * ENTRY_BYTES) {
             self.changed_entry(&picture, bytes);
@@ -169,7 +186,7 @@ impl Draw {
     fn changed_entry(&mut self, picture: &Picture, entry: &mut [u8]) {
         let most = picture.largest_magnitude();
         let random = self.random();
-        match random.below(6) {
+        match random.below(12) {
             0 => entry.fill_with(|| random.number() as u8),
             1 => entry.copy_within(6 + 6 * random.below(2).., 0),
             2 => {
@@ -178,7 +195,7 @@ impl Draw {
                     Picture { format: 1, depth: random.pick(&[8, 9, 10]), luma: true, chroma: true, ..*picture };
                 entry.copy_from_slice(&table::encode(&generate::set(random, &other)));
             }
-            _ => entry[random.below(ENTRY_BYTES)] = set_byte(random, most),
+            _ => change_byte(random, entry, most),
         }
     }
 

@@ -32,7 +32,9 @@ fn picture(random: &mut Random) -> (usize, Picture) {
         _ => random.pick(&[(8192, 8), (8, 8192)]),
     };
     let format = u8::from(!random.once_in(3));
-    let depth = 8 + random.below(9) as u8;
+    // Depths 8 and 9 have an M of their own each.
+    let any = 8 + random.below(9) as u8;
+    let depth = random.pick(&[8, 9, any, any, any, any]);
     let luma = !random.once_in(4);
     let chroma = format == 1 && !random.once_in(4);
     (class, Picture { width, height, ctb, format, depth, luma, chroma })
@@ -74,6 +76,17 @@ impl Draw {
     pub fn up_to_now(&mut self, next: u32) -> u32 {
         let earlier = self.random().below(next as usize + 1) as u32;
         self.random().pick(&[next, earlier])
+    }
+
+    /// Any CTU of the picture up to the next one.
+    pub fn earlier(&mut self, next: u32) -> u32 {
+        let last = self.picture().ctus() - 1;
+        self.random().below(last.min(next as usize) + 1) as u32
+    }
+
+    /// A set of the next CTU, read or written.
+    pub fn set_call(&mut self, world: &World, next: u32) -> Call {
+        if self.random().once_in(3) { self.read(world, next) } else { self.write(world, next) }
     }
 
     /// A call that is accepted, as long as one of its kind is due.
@@ -155,7 +168,7 @@ impl Draw {
         Call::Write { set: table::encode(&set), out: vec![filler; room] }
     }
 
-    fn deliver(&mut self, component: u32, ctb: u32) -> Call {
+    pub fn deliver(&mut self, component: u32, ctb: u32) -> Call {
         let Script { picture, deblocked, .. } = &self.script;
         Call::Deliver { component, ctb, samples: block_samples(picture, deblocked, component as u8, ctb) }
     }

@@ -1,12 +1,12 @@
 //! The second program's side: what a call must give back, and for which of its reasons it is refused.
 //!
-//! Method: the second program's own list of reasons is asked first. Where one holds, nothing may change, so the call is
+//! Method: the second program's own reasons are asked first. Where one holds, nothing may change, so the call is
 //! not made at all; where none holds, the second program makes it on its own world.
 
 use crate::call::{Call, Returned};
-use second::reasons::{self, Reason};
+use second::reasons::{self, Seen};
 use second::table::{self, SET_BYTES};
-use second::{ComponentSet, CtuSet, Picture, State, Value, World, apply};
+use second::{ComponentSet, CtuSet, Kind, Picture, State, Value, World, apply};
 use steamgusset::ffi;
 
 /// What must come back, and the place of the reason in the call's list, from 1; 0 for an accepted call.
@@ -23,8 +23,8 @@ pub fn judged(world: &mut World, state: ffi::State, call: &Call) -> Judgement {
         return Judgement { returned, reason: 1 };
     };
     let said = said(call);
-    if let Some((place, number)) = first_reason(world, held, &said) {
-        returned.number = number.into();
+    if let Some((place, refusal)) = reasons::first(Kind::of(&said), &Seen::of(world, held, &said)) {
+        returned.number = refusal.0.into();
         // After the boundary's own reason come those of the list.
         return Judgement { returned, reason: 2 + place };
     }
@@ -105,30 +105,4 @@ fn component_said(six: &[u8]) -> ComponentSet {
         [2, class, ..] => ComponentSet::Edge { class: *class, offsets },
         _ => ComponentSet::Band { position: u8::MAX, offsets },
     }
-}
-
-/// The first reason of the call's list that holds: its place and its number.
-fn first_reason(world: &World, state: State, call: &second::Call) -> Option<(usize, u8)> {
-    let World { deblocked, filtered, marks, table } = world;
-    let lengths = |planes: &[Vec<u16>; 3]| planes.each_ref().map(Vec::len);
-    match call {
-        second::Call::Open => first(&reasons::open(state.picture, marks)),
-        second::Call::Read { bins, count } => first(&reasons::read(state, bins, *count, table)),
-        second::Call::Write { set, out } => first(&reasons::write(state, set, out, table)),
-        second::Call::Deliver { component, ctb, samples } => {
-            first(&reasons::deliver(state, *component, *ctb, samples, lengths(deblocked), marks))
-        }
-        second::Call::Filter { component, ctb } => {
-            let from = deblocked.each_ref().map(Vec::as_slice);
-            first(&reasons::filter(state, *component, *ctb, from, lengths(filtered), marks, table))
-        }
-        second::Call::FinishedRows { component } => {
-            first(&reasons::finished_rows(state, *component, lengths(filtered), marks))
-        }
-    }
-}
-
-fn first(list: &[Reason]) -> Option<(usize, u8)> {
-    let place = list.iter().position(|(_, holds)| holds())?;
-    Some((place, list[place].0))
 }

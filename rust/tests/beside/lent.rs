@@ -109,11 +109,11 @@ impl Memory {
 
     /// The first place where this memory is not the world, or where a guard has changed.
     pub fn difference(&self, world: &World) -> Option<String> {
-        let planes = |name: &'static str, ours: &[Guarded<u16>; 3], theirs: &[Vec<u16>; 3]| {
-            (0..3).find_map(|of| lent_difference(&format!("{name} plane {of}"), &ours[of], &theirs[of]))
+        let planes = |names: [&str; 3], ours: &[Guarded<u16>; 3], theirs: &[Vec<u16>; 3]| {
+            (0..3).find_map(|of| lent_difference(names[of], &ours[of], &theirs[of]))
         };
-        planes("deblocked", &self.deblocked, &world.deblocked)
-            .or_else(|| planes("filtered", &self.filtered, &world.filtered))
+        planes(["deblocked luma", "deblocked Cb", "deblocked Cr"], &self.deblocked, &world.deblocked)
+            .or_else(|| planes(["filtered luma", "filtered Cb", "filtered Cr"], &self.filtered, &world.filtered))
             .or_else(|| lent_difference("marks", &self.marks, &world.marks))
             .or_else(|| lent_difference("table", &self.table, &world.table))
     }

@@ -2,7 +2,7 @@
 
 use crate::archive;
 use crate::call::Call;
-use crate::damage::DAMAGES;
+use crate::damage::{DAMAGES, Damage};
 use crate::draw::Draw;
 use crate::judge::{crossing, judged};
 use crate::lent::{Fence, Memory};
@@ -83,13 +83,16 @@ impl Run<'_> {
         Err("the picture does not come to its end".into())
     }
 
-    /// A call of the run, or calls on a damaged copy.
+    /// A call of the run, calls on a damaged copy, or a set read or written on one.
     fn step(&mut self) -> Result<(), String> {
-        if self.draw.random().below(5) < 2 {
-            return self.damaged_step();
+        match self.draw.random().below(16) {
+            0..=4 => self.damaged_step(),
+            5..=8 => self.set_step(),
+            _ => {
+                let call = self.draw.call(&self.sides.world, self.sides.state.next);
+                self.make(call)
+            }
         }
-        let call = self.draw.call(&self.sides.world, self.sides.state.next);
-        self.make(call)
     }
 
     fn make(&mut self, call: Call) -> Result<(), String> {
@@ -116,6 +119,30 @@ impl Run<'_> {
         // What the first call has left, damaged or not, is as good a world as any.
         let next = self.draw.call(&self.sides.world, self.sides.state.next);
         made(&mut self.draw, &mut copy, &next, self.watch, self.tally).map(|_| ()).map_err(told)
+    }
+
+    /// A set of any CTU up to the next one, read or written on a copy of the table: spoiled, or beside an entry that is
+    /// damaged. A byte has many values, so this is done often; it is lent nothing else, and costs little.
+    fn set_step(&mut self) -> Result<(), String> {
+        let Sides { world, state, .. } = &self.sides;
+        let mut world = World { table: world.table.clone(), ..World::default() };
+        let mut state = *state;
+        state.next = self.draw.earlier(state.next);
+        let mut call = self.draw.set_call(&world, state.next);
+        // The first CTU stands beside no other.
+        let is_damaged = state.next > 0 && self.draw.random().once_in(2);
+        if is_damaged {
+            self.draw.stored(&call, state.next, &mut world.table);
+        } else {
+            call = self.draw.spoiled(call);
+        }
+        let memory = Memory::holding(&world, self.draw.random(), self.watch.guards);
+        let mut copy = Sides { world, memory, state };
+        let reason = made(&mut self.draw, &mut copy, &call, self.watch, self.tally)?;
+        if is_damaged {
+            self.tally.damaged(Damage::Table, reason > 0);
+        }
+        Ok(())
     }
 
     fn ends_as_the_whole_picture(&self) -> Result<(), String> {

@@ -25,44 +25,44 @@ impl Draw {
         }
     }
 
-    /// Counts and bytes by one and by much, bits changed, bins that mean anything or nothing.
+    /// Counts and bytes by one, by much and by any number, bits changed, bins that mean anything or nothing.
     fn spoiled_bins(&mut self, mut bins: Vec<u8>, mut count: usize) -> Call {
         let random = self.random();
         let all = 8 * bins.len();
-        match random.below(8) {
-            0 => count = count.saturating_sub(1 + random.below(3)),
-            1 => count += 1,
-            2 => bins.truncate(random.below(bins.len() + 1)),
-            3 => count = random.pick(&[0, all, all + 1, all + 8, 2 * all]),
-            4 => count = random.pick(&[usize::MAX, usize::MAX / 8 + 1, 1 << 61, (1 << 61) + count, (1 << 32) + count]),
-            5 => {
+        match random.below(16) {
+            0 | 1 => count = count.saturating_sub(1 + random.below(3)),
+            2 | 3 => count += 1,
+            4 | 5 => bins.truncate(random.below(bins.len() + 1)),
+            6 => count = random.pick(&[0, all, all + 1, all + 8, 2 * all]),
+            7 => count = random.pick(&[usize::MAX, usize::MAX / 8 + 1, 1 << 61, (1 << 61) + count, (1 << 32) + count]),
+            8 => count = any_size(random),
+            9 => count = usize::MAX - any_size(random),
+            10 | 11 => {
                 bins = noise(random, 60);
                 count = random.below(8 * bins.len() + 1);
             }
-            6 => {
+            12 => {
                 bins.extend(noise(random, 4));
                 count += random.below(8 * bins.len() - count + 1);
             }
+            13 if random.once_in(2) => return long_bins(random, bins, count),
             _ => flip_any_bit(random, &mut bins),
         }
         Call::Read { bins, count }
     }
 
-    /// Bytes that encode no set or one outside the rules; room that is short by one byte or by much.
+    /// Bytes that encode no set or one outside the rules; room that is short by one byte or by much, or is very long.
     fn spoiled_set(&mut self, mut set: [u8; SET_BYTES], mut out: Vec<u8>) -> Call {
         let most = self.picture().largest_magnitude();
         let random = self.random();
-        match random.below(6) {
-            0 | 1 => {
-                let place = random.below(SET_BYTES);
-                set[place] = set_byte(random, most);
-            }
-            2 => set[6 * random.below(3)] = random.pick(&[0, 1, 2, 3, 4, 255]),
-            3 => set = std::array::from_fn(|_| random.number() as u8),
-            4 => {
+        match random.below(16) {
+            0..=10 => change_byte(random, &mut set, most),
+            11 => set = std::array::from_fn(|_| random.number() as u8),
+            12 | 13 => {
                 out.pop();
             }
-            _ => out.truncate(random.below(out.len() + 1)),
+            14 => out.truncate(random.below(out.len() + 1)),
+            _ => out.resize(random.below(LONG), 0xEE),
         }
         Call::Write { set, out }
     }
@@ -83,19 +83,52 @@ impl Draw {
         samples
     }
 
-    /// A component that is not there, often one whose low bits are a sound one's.
+    /// A component that is not there, often one whose low bits are a sound one's, or any number.
     pub fn wrong_component(&mut self, component: u32) -> u32 {
         let components = self.picture().components() as u32;
-        let high = self.random().pick(&[1 << 8, 1 << 16, 1 << 31]);
-        self.random().pick(&[components, 3, 4, 127, 128, 255, 256, component | high, u32::MAX - component, u32::MAX])
+        let random = self.random();
+        let high = random.pick(&[1 << 8, 1 << 16, 1 << 31]);
+        let wrong = match random.below(4) {
+            0 => random.number() as u32,
+            1 => random.below(1024) as u32,
+            _ => random.pick(&[components, 3, 4, 127, 128, 255, 256, component | high, u32::MAX - component, u32::MAX]),
+        };
+        wrong.max(components)
     }
 
     /// A CTB that is not there, likewise.
     pub fn wrong_ctb(&mut self, ctb: u32) -> u32 {
         let ctus = self.picture().ctus() as u32;
-        let high = self.random().pick(&[1 << 16, 1 << 24, 1 << 31]);
-        self.random().pick(&[ctus, ctus + 1, ctus + ctb, 3 * ctus, ctb | high, u32::MAX - ctb, u32::MAX])
+        let random = self.random();
+        let high = random.pick(&[1 << 8, 1 << 16, 1 << 24, 1 << 31]);
+        let wrong = match random.below(4) {
+            0 => random.number() as u32,
+            1 => ctus + random.below(1024) as u32,
+            _ => random.pick(&[ctus, ctus + 1, ctus + ctb, 3 * ctus, ctb | high, u32::MAX - ctb, u32::MAX]),
+        };
+        wrong.max(ctus)
     }
+}
+
+/// Bytes for more than twice the bins that 16 bits count.
+const LONG: usize = 20_000;
+
+/// A CTU's bins in a buffer of thousands of bytes: with their own count, with any count within the bytes, with one that
+/// agrees with their own in its low 16 bits, or with one just above the bytes.
+fn long_bins(random: &mut Random, mut bins: Vec<u8>, own: usize) -> Call {
+    let length = (1 << 13) + bins.len() + random.below(LONG - (1 << 13));
+    bins.resize_with(length, || random.number() as u8);
+    let all = 8 * length;
+    let within = random.below(all + 1);
+    let alike = own + ((1 + random.below((all - own) >> 16)) << 16);
+    let count = random.pick(&[own, alike, alike, within, within, 1 << 16, all, all + 1, all + within]);
+    Call::Read { bins, count }
+}
+
+/// A number of any size: each number of bits is as likely as any other.
+fn any_size(random: &mut Random) -> usize {
+    let bits = random.below(64);
+    (random.number() >> bits) as usize
 }
 
 fn noise(random: &mut Random, most: usize) -> Vec<u8> {
@@ -108,25 +141,42 @@ fn flip_any_bit(random: &mut Random, bins: &mut [u8]) {
     }
 }
 
-/// A byte near the borders of what some byte of a set may be.
-pub fn set_byte(random: &mut Random, most: u8) -> u8 {
-    let any = random.number() as u8;
-    let borders = [0, 1, 2, 3, 4, 31, 32, 127, 128, 129, 128 - most, 127 - most, 128 + most, 129 + most, 255, any];
-    random.pick(&borders)
+/// One byte of a set changed: type, position or class, or offset, mostly of a component that is on, if one is. Cr takes
+/// type and class of Cb, so sometimes both are changed alike.
+pub fn change_byte(random: &mut Random, bytes: &mut [u8], most: u8) {
+    let on: Vec<usize> = (0..3).filter(|component| bytes[6 * component] != 0).collect();
+    let component = if on.is_empty() || random.once_in(8) { random.below(3) } else { random.pick(&on) };
+    let offset = 2 + random.below(4);
+    let place = random.pick(&[0, 1, offset]);
+    let byte = set_byte(random, most);
+    bytes[6 * component + place] = byte;
+    if component > 0 && random.once_in(2) {
+        bytes[6 * (3 - component) + place] = byte;
+    }
 }
 
-/// A sample above the largest, where there is one.
+/// Any byte, or one near the borders of what some byte of a set may be.
+fn set_byte(random: &mut Random, most: u8) -> u8 {
+    let borders = [0, 1, 2, 3, 4, 31, 32, 127, 128, 129, 128 - most, 127 - most, 128 + most, 129 + most, 255];
+    if random.once_in(4) { random.pick(&borders) } else { random.number() as u8 }
+}
+
+/// A sample above the largest, where there is one: any of them, or one at a border.
 pub fn above(random: &mut Random, largest: u16) -> u16 {
-    let any = (random.number() as u16).saturating_add(largest).max(largest.saturating_add(1));
-    random.pick(&[largest.saturating_add(1), any, largest | 1 << 15, u16::MAX])
+    let least = largest.saturating_add(1);
+    let any = least + random.below(usize::from(u16::MAX - least) + 1) as u16;
+    let near = least.saturating_add(random.below(256) as u16);
+    random.pick(&[least, near, near, any, any, largest | 1 << 15, u16::MAX])
 }
 
-/// A length wrong by one, by an entry of the table, or by much.
+/// A length wrong by one, by an entry of the table, by any number, or so that its low bits are right.
 pub fn wrong_length<T: Copy + Default>(random: &mut Random, of: &mut Vec<T>) {
     let length = of.len();
-    let shorter = random.pick(&[length.saturating_sub(1), length / 2, 0]);
-    let longer = random.pick(&[length + 1, length + ENTRY_BYTES, 2 * length]);
+    let any = random.below(2 * length + 8);
+    let shorter = random.pick(&[length.saturating_sub(1), length / 2, 0, any]);
+    let longer = random.pick(&[length + 1, length + ENTRY_BYTES, 2 * length, length + 256, any]);
     let wrong = if random.once_in(2) { shorter } else { longer };
-    // Half of nothing, and twice nothing, are nothing.
+    let wrong = if random.once_in(200) { length + (1 << 16) } else { wrong };
+    // Half of nothing, twice nothing and any length may be the right one.
     of.resize(if wrong == length { length + 1 } else { wrong }, T::default());
 }

@@ -21,6 +21,8 @@ pub struct Tally {
     pub calls: u64,
     /// By call, then by reason; at 0 the accepted ones.
     answers: [[u64; MOST_ANSWERS]; CALLS.len()],
+    /// Reads of more bins than 16 bits count, all of them within the bytes.
+    pub long: u64,
     /// By kind: how often done, and how often the call made then was refused.
     damages: [[u64; 2]; DAMAGES.len()],
     /// Pictures that came to their end.
@@ -32,6 +34,8 @@ impl Tally {
     pub fn answered(&mut self, call: &Call, reason: usize) {
         self.calls += 1;
         self.answers[call.place()][reason] += 1;
+        let is_long = |bins: &[u8], count: usize| 1 << 16 < count && count.div_ceil(8) <= bins.len();
+        self.long += u64::from(matches!(call, Call::Read { bins, count } if is_long(bins, *count)));
     }
 
     pub fn damaged(&mut self, kind: Damage, refused: bool) {
@@ -48,6 +52,7 @@ impl Tally {
 
     pub fn add(&mut self, other: &Tally) {
         self.calls += other.calls;
+        self.long += other.long;
         add_each(self.answers.as_flattened_mut(), other.answers.as_flattened());
         add_each(self.damages.as_flattened_mut(), other.damages.as_flattened());
         add_each(&mut self.ended, &other.ended);
@@ -73,6 +78,11 @@ impl Tally {
     /// How often the call of this place in [`CALLS`] was refused for the last of its reasons.
     pub fn for_last_reason(&self, call: usize) -> u64 {
         self.answers[call][CALLS[call].1.len()]
+    }
+
+    /// How often the call of this place in [`CALLS`] was accepted.
+    pub fn accepted(&self, call: usize) -> u64 {
+        self.answers[call][0]
     }
 
     /// Whether pictures of every class, CTB size, format, depth and switches came to their end.
@@ -124,6 +134,7 @@ impl fmt::Display for Tally {
         write!(out, "{}", lines(|call| self.by_number(call)))?;
         writeln!(out, "refusals by reason, in the order in which they are asked:")?;
         write!(out, "{}", lines(|call| self.by_reason(call)))?;
+        writeln!(out, "reads of more than 65,536 bins within the bytes: {}", self.long)?;
         writeln!(out, "damages of copies, and how many of the calls made on them were refused:")?;
         write!(out, "{}", self.by_damage())?;
         write!(out, "pictures that came to their end: {}; ", self.by_class())?;

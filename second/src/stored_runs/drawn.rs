@@ -7,12 +7,12 @@
 use super::{Command, Machine, PLANE, Samples, xorshift};
 use crate::picture::{Picture, State};
 use crate::random::Random;
-use crate::reasons;
+use crate::reasons::{self, Seen};
 use crate::replay::blocks;
 use crate::runs::Script;
 use crate::sets::CtuSet;
 use crate::table::ENTRY_BYTES;
-use crate::world::{Call, World};
+use crate::world::{Call, Kind, World};
 use std::collections::BTreeMap;
 
 /// How many runs on small pictures are stored.
@@ -29,32 +29,6 @@ const MOST_CALLS: [usize; 3] = [110, 220, 900];
 
 /// A damage of more places is laid out in part.
 const MOST_POKES: usize = 24;
-
-/// The six calls.
-#[derive(Clone, Copy, Debug, PartialEq, Eq, PartialOrd, Ord)]
-pub enum Kind {
-    Open,
-    Read,
-    Write,
-    Deliver,
-    Filter,
-    FinishedRows,
-}
-
-impl Kind {
-    pub const ALL: [Kind; 6] = [Kind::Open, Kind::Read, Kind::Write, Kind::Deliver, Kind::Filter, Kind::FinishedRows];
-
-    pub fn of(call: &Call) -> Kind {
-        match call {
-            Call::Open => Kind::Open,
-            Call::Read { .. } => Kind::Read,
-            Call::Write { .. } => Kind::Write,
-            Call::Deliver { .. } => Kind::Deliver,
-            Call::Filter { .. } => Kind::Filter,
-            Call::FinishedRows { .. } => Kind::FinishedRows,
-        }
-    }
-}
 
 /// All commands, run after run.
 pub fn commands() -> Vec<Command> {
@@ -357,7 +331,7 @@ impl Run {
 
     /// An open that is accepted begins the picture anew: the more blocks it has, the rarer that has to be.
     fn too_soon(&mut self, state: &State, lent: &World) -> bool {
-        let is_refused = reasons::open(state.picture, &lent.marks).iter().any(|(_, holds)| holds());
+        let is_refused = reasons::refusal(Kind::Open, &Seen::of(lent, *state, &Call::Open)).is_some();
         !is_refused && !self.script.random.once_in(self.script.picture.marks())
     }
 

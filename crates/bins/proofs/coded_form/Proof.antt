@@ -3,8 +3,8 @@ use borrow.Author.Needs.{needs}
 use mathlib.Core.Path.{ap}
 use denote.Ref.{now}
 use Rattle.bins.specs.Views.{formTaken}
-use Rattle.bins.proofs.Resolving.{read-cut, read-more, read-whole}
-use Rattle.bins.proofs.Steps.{known}
+use Rattle.bins.proofs.Forms.{form-early, form-remains, form-whole}
+use Rattle.bins.proofs.Steps.{known-taken}
 use Rattle.bins.proofs.coded_form.Statement.{statement}
 use Rattle.bins.proofs.coded_form.Tie as tie
 
@@ -21,24 +21,24 @@ returns : tie.Need-returns
 returns c =
     let start = c .before .before .before .before in
     let a = start .args in
-    read-cut (a .s) (a .has-left) (a .has-up) (now (a .bytes)) (a .count) (start .pre .1)
-    (known (c .before .before .form .ensures) (ap formTaken (c .enum-told .given .1)))
+    form-early (a .s) (a .has-left) (a .has-up) (now (a .bytes)) (a .count) (start .pre .0) (start .pre .1)
+    (known-taken (c .before .before .form .ensures) (ap formTaken (c .enum-told .given .1)))
 
 returns-2 : tie.Need-returns-2
 returns-2 c =
     let k = c .before .before in
     let start = k .before .before .before .before .before in
     let a = start .args in
-    read-more (a .s) (a .has-left) (a .has-up) (now (a .bytes)) (a .count) (start .pre .1) (start .pre .0)
-    (known (k .before .before .before .form .ensures) (ap formTaken (k .before .form2 .given .1))) (c .if1 .taken)
+    form-remains (a .s) (a .has-left) (a .has-up) (now (a .bytes)) (a .count) (start .pre .0) (start .pre .1)
+    (known-taken (k .before .before .before .form .ensures) (ap formTaken (k .before .form2 .given .1))) (c .if1 .taken)
 
 returns-3 : tie.Need-returns-3
 returns-3 c =
     let k = c .before .before in
     let start = k .before .before .before .before .before in
     let a = start .args in
-    read-whole (a .s) (a .has-left) (a .has-up) (now (a .bytes)) (a .count) (start .pre .1) (start .pre .0)
-    (known (k .before .before .before .form .ensures) (ap formTaken (k .before .form2 .given .1))) (c .if1 .left)
+    form-whole (a .s) (a .has-left) (a .has-up) (now (a .bytes)) (a .count) (start .pre .0) (start .pre .1)
+    (known-taken (k .before .before .before .form .ensures) (ap formTaken (k .before .form2 .given .1))) (c .if1 .left)
 
 pub coded-form-spec : {M : Type 1} → statement M
 coded-form-spec =

@@ -1,8 +1,7 @@
 -- Above 2 ^ depth - 1 is not below 2 ^ depth, which is not 0.
 use mathlib.Core.Path.{_≡_, ap, _∙_}
-use Prim.Native.Nat.{ℕ, _-_, _^_, _≤_, _<_}
+use Prim.Native.Nat.{ℕ, _-_, _^_, _<_}
 use native.Mathlib.Omega.{arith}
-use denote.Ref.{now}
 use lib.Pow.{pow-pos}
 use Rattle.standard.specs.Picture.{depthOf}
 use Rattle.standard.proofs.Depths.{depth-in-range}

@@ -1,6 +1,6 @@
 -- The product is the rectangle's area, which no CTB has more than 64 * 64 of.
 use mathlib.Core.Path.{_≡_, sym, ap, subst}
-use Prim.Native.Nat.{ℕ, _-_, _*_, _≤_}
+use Prim.Native.Nat.{_-_, _≤_}
 use native.Mathlib.Omega.{arith}
 use Rattle.standard.specs.declared.Rectangle.{Rectangle}
 use Rattle.standard.specs.Picture.{rectangle}

@@ -1,6 +1,5 @@
 -- Layout and rectangle are those of the CTB, and the answers agree with what the picture's parameters say.
 use denote.Ref.{now}
-use Rattle.standard.specs.Picture.{rectangle}
 use Rattle.standard.specs.Samples.{layoutOf, contextOf}
 use Rattle.standard.specs.Table.{parametersIn}
 use Rattle.samples.specs.Around.{Agrees}

@@ -2,12 +2,12 @@
 use mathlib.Core.Path.{_≡_, refl, sym, subst}
 use Prim.Native.Nat.{ℕ, _+_, _-_, _*_, _≤_, _<_}
 use native.Mathlib.Omega.{arith}
+use borrow.Author.Count.{below-more}
 use denote.Ref.{now}
 use lib.ListN.{getD}
 use Rattle.standard.proofs.Answers.{told, told-not}
 use Rattle.standard.proofs.Rasters.{index-lt}
-use Rattle.planes.proofs.Scans.{up-to}
-use Rattle.filtering.specs.Filtering.{Outside}
+use Rattle.marks.specs.Marks.{Outside}
 use Rattle.filtering.proofs.mark_outside.Statement.{statement}
 use Rattle.filtering.proofs.mark_outside.Tie as tie
 
@@ -31,11 +31,11 @@ loop-holds c = (omega arith, omega arith, λ v l m. omega arith)
 index-requires : tie.Need-index-requires Inv-loop μ-loop
 index-requires c κs = omega arith
 
-add-row-outside : tie.Need-add-row-outside Inv-loop μ-loop
-add-row-outside c = omega arith
+add-some-outside : tie.Need-add-some-outside Inv-loop μ-loop
+add-some-outside c = omega arith
 
-row-outside-requires : tie.Need-row-outside-requires Inv-loop μ-loop
-row-outside-requires c κs =
+some-outside-requires : tie.Need-some-outside-requires Inv-loop μ-loop
+some-outside-requires c κs =
     let a = c .before .before .before .before .before .before .args in
     let y = c .before .before .before .loop .y in
     let l : y * a .w + (a .r .x1 - 1) < a .w * a .h = index-lt (omega arith) (omega arith) in
@@ -46,7 +46,7 @@ returns c =
     let i = c .before .before in
     let l = i .before .before .before in
     let a = l .before .before .before .args in
-    let t = told (c .before .row-outside .ensures) (c .if2 .taken) in
+    let t = told (c .before .some-outside .ensures) (c .if2 .taken) in
     let lt = t .1 in
     let e = row-mark (a .from) (i .index .result) (a .w) (a .r .x0) (l .loop .y) (t .0) (a .r .x0 + t .0) (i .index .ensures .place) refl in (
       a .r .x0 + t .0,
@@ -66,10 +66,10 @@ loop-again c =
     let i = c .before .before in
     let l = i .before .before .before in
     let a = l .before .before .before .args in
-    let none = told-not (c .before .row-outside .ensures) (c .if2 .left) in (
+    let none = told-not (c .before .some-outside .ensures) (c .if2 .left) in (
       omega arith,
       omega arith,
-      up-to (λ v. a .r .y0 ≤ v → (u : ℕ) → a .r .x0 ≤ u → u < a .r .x1 → ¬ Outside (a .low) (a .high) (getD (now (a .marks)) (a .from + (v * a .w + u)) 0)) (l .loop .y) (l .loop .inv .2)
+      below-more (λ v. a .r .y0 ≤ v → (u : ℕ) → a .r .x0 ≤ u → u < a .r .x1 → ¬ Outside (a .low) (a .high) (getD (now (a .marks)) (a .from + (v * a .w + u)) 0)) (l .loop .y) (l .loop .inv .2)
           (λ above u left right o.
           let e = row-mark (a .from) (i .index .result) (a .w) (a .r .x0) (l .loop .y) (u - a .r .x0) u (i .index .ensures .place) (omega (arith, left)) in
           none (u - a .r .x0, omega (arith, left, right), subst (λ (n : ℕ). Outside (a .low) (a .high) (getD (now (a .marks)) n 0)) (sym e) o)),
@@ -89,8 +89,8 @@ mark-outside-spec =
     sub-n
     loop-holds
     index-requires
-    add-row-outside
-    row-outside-requires
+    add-some-outside
+    some-outside-requires
     returns
     add-y
     loop-less

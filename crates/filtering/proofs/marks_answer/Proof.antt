@@ -9,8 +9,8 @@ use Rattle.standard.specs.Table.{offsetsAt}
 use Rattle.standard.specs.Refusals.{Tells}
 use Rattle.standard.specs.Reasons.{markOf, SomeWaited, MarkAboveTwo, SetIsMissing}
 use Rattle.standard.proofs.Answers.{told, told-not}
+use Rattle.marks.proofs.Marks.{above-two, is-above, zero-mark, is-below}
 use Rattle.filtering.specs.Filtering.{WaitedOutside}
-use Rattle.filtering.proofs.Marks.{above-two, is-above, zero-mark, is-below}
 use borrow.Author.Needs.{needs}
 use Rattle.filtering.proofs.marks_answer.Statement.{statement}
 use Rattle.filtering.proofs.marks_answer.Tie as tie

@@ -36,31 +36,31 @@ is-two c =
     let s = c .before .before .before .before in
     only-two (s .args .state .picture) (s .pre .0 .component) (c .match .rest .0 .1) (c .match .rest .1)
 
-sample-too-large-requires : tie.Need-sample-too-large-requires
-sample-too-large-requires c κs = requires (c .before .before .before .before) 0 (c .match .keys1)
+scanned-too-large-requires : tie.Need-scanned-too-large-requires
+scanned-too-large-requires c κs = requires (c .before .before .before .before) 0 (c .match .keys1)
 
-sample-too-large-requires-2 : tie.Need-sample-too-large-requires-2
-sample-too-large-requires-2 c κs = requires (c .before .before .before .before) 1 (c .match .keys2)
+scanned-too-large-requires-2 : tie.Need-scanned-too-large-requires-2
+scanned-too-large-requires-2 c κs = requires (c .before .before .before .before) 1 (c .match .keys2)
 
-sample-too-large-requires-3 : tie.Need-sample-too-large-requires-3
-sample-too-large-requires-3 c κs = requires (c .before .before .before .before) 2 (is-two c)
+scanned-too-large-requires-3 : tie.Need-scanned-too-large-requires-3
+scanned-too-large-requires-3 c κs = requires (c .before .before .before .before) 2 (is-two c)
 
 returns : tie.Need-returns
-returns c = says (c .before .before .before .before .before) (c .sample-too-large .result) 0 (c .before .match .keys1) (c .sample-too-large .ensures)
+returns c = says (c .before .before .before .before .before) (c .scanned-too-large .result) 0 (c .before .match .keys1) (c .scanned-too-large .ensures)
 
 returns-2 : tie.Need-returns-2
-returns-2 c = says (c .before .before .before .before .before) (c .sample-too-large2 .result) 1 (c .before .match .keys2) (c .sample-too-large2 .ensures)
+returns-2 c = says (c .before .before .before .before .before) (c .scanned-too-large2 .result) 1 (c .before .match .keys2) (c .scanned-too-large2 .ensures)
 
 returns-3 : tie.Need-returns-3
-returns-3 c = says (c .before .before .before .before .before) (c .sample-too-large3 .result) 2 (is-two (c .before)) (c .sample-too-large3 .ensures)
+returns-3 c = says (c .before .before .before .before .before) (c .scanned-too-large3 .result) 2 (is-two (c .before)) (c .scanned-too-large3 .ensures)
 
 pub some-too-large-spec : {M : Type 1} → statement M
 some-too-large-spec =
     tie.close
     (tie.spec
-    sample-too-large-requires
-    sample-too-large-requires-2
-    sample-too-large-requires-3
+    scanned-too-large-requires
+    scanned-too-large-requires-2
+    scanned-too-large-requires-3
     returns
     returns-2
     returns-3)

@@ -27,19 +27,19 @@ here c = let s = c .before .before .before in row-fits (s .args .from) (c .befor
 loop-holds : tie.Need-loop-holds Inv-loop μ-loop
 loop-holds c = (omega arith, λ j k l. absurd (omega arith))
 
-mul-some-unfiltered : tie.Need-mul-some-unfiltered Inv-loop μ-loop
-mul-some-unfiltered c = omega (arith, here c)
+mul-some-outside : tie.Need-mul-some-outside Inv-loop μ-loop
+mul-some-outside c = omega (arith, here c)
 
-add-some-unfiltered : tie.Need-add-some-unfiltered Inv-loop μ-loop
-add-some-unfiltered c = omega (arith, here c)
+add-some-outside : tie.Need-add-some-outside Inv-loop μ-loop
+add-some-outside c = omega (arith, here c)
 
-some-unfiltered-requires : tie.Need-some-unfiltered-requires Inv-loop μ-loop
-some-unfiltered-requires c κs = here c
+some-outside-requires : tie.Need-some-outside-requires Inv-loop μ-loop
+some-outside-requires c κs = here c
 
 returns : tie.Need-returns Inv-loop μ-loop
 returns c =
     let b = c .before .before in
-    record { whole = b .before .loop .inv .1; ends = inr (b .loop-test .taken, told (c .before .some-unfiltered .ensures) (c .if1 .taken)) }
+    record { whole = b .before .loop .inv .1; ends = inr (b .loop-test .taken, told (c .before .some-outside .ensures) (c .if1 .taken)) }
 
 add-r : tie.Need-add-r Inv-loop μ-loop
 add-r c = omega arith
@@ -51,7 +51,7 @@ loop-again : tie.Need-loop-again Inv-loop μ-loop
 loop-again c =
     let l = c .before .before .before .loop in
     let a = c .before .before .before .before .before .args in
-    (omega arith, one-more-row (now (a .marks)) (a .from) (a .n) (l .r) (l .inv .1) (told-not (c .before .some-unfiltered .ensures) (c .if1 .left)))
+    (omega arith, one-more-row (now (a .marks)) (a .from) (a .n) (l .r) (l .inv .1) (told-not (c .before .some-outside .ensures) (c .if1 .left)))
 
 returns-2 : tie.Need-returns-2 Inv-loop μ-loop
 returns-2 c = record { whole = c .before .loop .inv .1; ends = inl (omega arith) }
@@ -63,9 +63,9 @@ ctb-rows-filtered-spec =
     Inv-loop
     μ-loop
     loop-holds
-    mul-some-unfiltered
-    add-some-unfiltered
-    some-unfiltered-requires
+    mul-some-outside
+    add-some-outside
+    some-outside-requires
     returns
     add-r
     loop-less

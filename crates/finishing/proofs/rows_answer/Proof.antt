@@ -49,8 +49,8 @@ enum-told c = search needs
 clear : (c : tie.After-enum-told) → Clear (B (start (c .before .before)))
 clear c = subst (Judged (B (start (c .before .before)))) (c .enum-told .given .1) (begins (c .before .before))
 
-marks-answer-requires : tie.Need-marks-answer-requires
-marks-answer-requires c κs =
+component-answer-requires : tie.Need-component-answer-requires
+component-answer-requires c κs =
     let s = start (c .before .before) in
     let b = called (s .args .state) (planes-and-marks? (s .args .state) (F s) (now (s .args .marks))) (clear c) in
     (b .rules, b .fits .1)
@@ -65,9 +65,9 @@ returns-2 : tie.Need-returns-2
 returns-2 c =
     let k = c .before in
     let s = start (k .before .before) in
-    judged-back (B s) (M s) (c .marks-answer .result) (clear k) (c .marks-answer .ensures)
+    judged-back (B s) (M s) (c .component-answer .result) (clear k) (c .component-answer .ensures)
 
 pub rows-answer-spec : {M : Type 1} → statement M
 rows-answer-spec =
     tie.close
-    (tie.spec call-answer-requires enum-known-r enum-told marks-answer-requires returns returns-2)
+    (tie.spec call-answer-requires enum-known-r enum-told component-answer-requires returns returns-2)

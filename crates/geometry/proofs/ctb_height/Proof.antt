@@ -9,14 +9,14 @@ use Rattle.geometry.proofs.ctb_height.Tie as tie
 divisors-of-requires : tie.Need-divisors-of-requires
 divisors-of-requires c κs = search needs
 
-part-requires : tie.Need-part-requires
-part-requires c κs = omega (arith, c .divisors-of .ensures .down, ctb-height (c .before .pre) (c .before .args .component) .divisor)
+quotient-requires : tie.Need-quotient-requires
+quotient-requires c κs = omega (arith, c .divisors-of .ensures .down, ctb-height (c .before .pre) (c .before .args .component) .divisor)
 
 returns : tie.Need-returns
 returns c =
     let b = c .before .before in
     let s = ctb-height (b .pre) (b .args .component) in
-    counted (over (b .args .p .ctb) (c .part .ensures) (c .before .divisors-of .ensures .down)) (omega arith) (omega arith)
+    counted (over (b .args .p .ctb) (c .quotient .ensures) (c .before .divisors-of .ensures .down)) (omega arith) (omega arith)
 
 pub ctb-height-spec : {M : Type 1} → statement M
-ctb-height-spec = tie.close (tie.spec divisors-of-requires part-requires returns)
+ctb-height-spec = tie.close (tie.spec divisors-of-requires quotient-requires returns)

@@ -9,14 +9,14 @@ use Rattle.geometry.proofs.ctb_width.Tie as tie
 divisors-of-requires : tie.Need-divisors-of-requires
 divisors-of-requires c κs = search needs
 
-part-requires : tie.Need-part-requires
-part-requires c κs = omega (arith, c .divisors-of .ensures .across, ctb-width (c .before .pre) (c .before .args .component) .divisor)
+quotient-requires : tie.Need-quotient-requires
+quotient-requires c κs = omega (arith, c .divisors-of .ensures .across, ctb-width (c .before .pre) (c .before .args .component) .divisor)
 
 returns : tie.Need-returns
 returns c =
     let b = c .before .before in
     let s = ctb-width (b .pre) (b .args .component) in
-    counted (over (b .args .p .ctb) (c .part .ensures) (c .before .divisors-of .ensures .across)) (omega arith) (omega arith)
+    counted (over (b .args .p .ctb) (c .quotient .ensures) (c .before .divisors-of .ensures .across)) (omega arith) (omega arith)
 
 pub ctb-width-spec : {M : Type 1} → statement M
-ctb-width-spec = tie.close (tie.spec divisors-of-requires part-requires returns)
+ctb-width-spec = tie.close (tie.spec divisors-of-requires quotient-requires returns)

@@ -1,32 +1,38 @@
--- M by the depth: four depths by value, and the two ends by a law.
-use mathlib.Core.Path.{sym, ap}
+-- M by its formula: at most 5 bits are shifted by, so none is lost.
+use mathlib.Core.Path.{_≡_, sym, ap, _∙_}
+use Prim.Native.Nat.{ℕ, _-_, _^_, _≤_, min}
 use native.Mathlib.Omega.{arith}
+use lib.Pow.{pow-pos}
 use Rattle.standard.specs.Sets.{largest}
-use Rattle.standard.proofs.Depths.{largest-is-0, largest-is-31}
+use Rattle.standard.proofs.Depths.{one-shifted}
+use borrow.Author.Needs.{needs}
 use Rattle.geometry.proofs.largest_magnitude.Statement.{statement}
 use Rattle.geometry.proofs.largest_magnitude.Tie as tie
 
+coded-depth-requires : tie.Need-coded-depth-requires
+coded-depth-requires c κs = search needs
+
+few : (c : tie.Else1) → c .before .coded-depth .result - 5 ≤ 16
+few c = omega (arith, c .before .coded-depth .ensures)
+
 returns : tie.Need-returns
 unfolding largest
-returns c = sym (ap largest (c .match .keys1))
+returns c =
+    let d = c .before .before .args .depth in
+    let e : min d 10 - 5 ≡ 0 = omega (arith, c .before .coded-depth .ensures, c .if1 .taken) in
+    sym (ap (λ (n : ℕ). 2 ^ n - 1) e)
+
+shl-result : tie.Need-shl-result
+shl-result c = search needs
+
+sub-result : tie.Need-sub-result
+sub-result c = omega (arith, one-shifted (few c), pow-pos (c .before .coded-depth .result - 5))
 
 returns-2 : tie.Need-returns-2
 unfolding largest
-returns-2 c = sym (ap largest (c .match .keys2))
-
-returns-3 : tie.Need-returns-3
-unfolding largest
-returns-3 c = sym (ap largest (c .match .keys3))
-
-returns-4 : tie.Need-returns-4
-unfolding largest
-returns-4 c = sym (ap largest (c .match .keys4))
-
-returns-5 : tie.Need-returns-5
-returns-5 c = sym (largest-is-0 (omega arith))
-
-returns-6 : tie.Need-returns-6
-returns-6 c = sym (largest-is-31 (omega arith))
+returns-2 c =
+    ap (λ (n : ℕ). n - 1) (one-shifted (few c)) ∙ ap (λ (n : ℕ). 2 ^ (n - 5) - 1) (c .before .coded-depth .ensures)
 
 pub largest-magnitude-spec : {M : Type 1} → statement M
-largest-magnitude-spec = tie.close (tie.spec returns returns-2 returns-3 returns-4 returns-5 returns-6)
+largest-magnitude-spec =
+    tie.close (tie.spec coded-depth-requires returns shl-result sub-result returns-2)

@@ -9,14 +9,14 @@ use Rattle.geometry.proofs.plane_width.Tie as tie
 divisors-of-requires : tie.Need-divisors-of-requires
 divisors-of-requires c κs = search needs
 
-part-requires : tie.Need-part-requires
-part-requires c κs = omega (arith, c .divisors-of .ensures .across, plane-width (c .before .pre) (c .before .args .component) .divisor)
+quotient-requires : tie.Need-quotient-requires
+quotient-requires c κs = omega (arith, c .divisors-of .ensures .across, plane-width (c .before .pre) (c .before .args .component) .divisor)
 
 returns : tie.Need-returns
 returns c =
     let b = c .before .before in
     let s = plane-width (b .pre) (b .args .component) in
-    counted (over (b .args .p .width) (c .part .ensures) (c .before .divisors-of .ensures .across)) (omega arith) (omega arith)
+    counted (over (b .args .p .width) (c .quotient .ensures) (c .before .divisors-of .ensures .across)) (omega arith) (omega arith)
 
 pub plane-width-spec : {M : Type 1} → statement M
-plane-width-spec = tie.close (tie.spec divisors-of-requires part-requires returns)
+plane-width-spec = tie.close (tie.spec divisors-of-requires quotient-requires returns)

@@ -1,5 +1,5 @@
 -- The verdict of `open_answer`: a refusal leaves all as it was; where none holds, the marks, as many as they must be, are 0.
-use mathlib.Core.Path.{_≡_, refl, ap, _∙_, subst}
+use mathlib.Core.Path.{refl, ap, _∙_, subst}
 use Prim.Native.Nat.{ℕ}
 use borrow.Author.Needs.{needs}
 use denote.Ref.{now}

@@ -4,7 +4,6 @@ use denote.Ref.{now}
 use Rattle.standard.specs.Reasons.{MarksFit, lentReasons}
 use Rattle.standard.proofs.Parts.{same-judged}
 use Rattle.standard.proofs.Called.{lent-same}
-use Rattle.lent.specs.Lengths.{LentRight}
 use Rattle.opening.proofs.open_answer.Statement.{statement}
 use Rattle.opening.proofs.open_answer.Tie as tie
 

@@ -1,14 +1,12 @@
+-- The samples before the one copied are the source's, and those after it are as they were.
 use mathlib.Core.Path.{refl}
 use Prim.Native.Nat.{_-_, _≤_}
 use native.Mathlib.Omega.{arith}
 use lib.ListN.{length, length-set, getD}
-use borrow.Author.Needs.{needs}
 use Rattle.planes.specs.Places.{Filled}
 use Rattle.planes.proofs.Fill.{none-filled, one-filled, all-filled}
 use Rattle.planes.proofs.copy_row.Statement.{statement}
 use Rattle.planes.proofs.copy_row.Tie as tie
-use Rattle.planes.proofs.copy_row.Reads as reads
-use Rattle.planes.proofs.copy_row.Lts as lts
 
 abbrev Inv-loop : tie.InvT-loop
 Inv-loop samples out₀ i₀ out i = (i ≤ length out) × Filled i (λ j. getD samples j 0) out₀ out

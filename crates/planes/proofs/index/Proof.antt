@@ -1,11 +1,10 @@
+-- A place within the plane is below its number of samples, so nothing wraps.
 use mathlib.Core.Path.{refl}
 use native.Mathlib.Omega.{arith}
 use Rattle.standard.proofs.Rasters.{index-lt}
 use Rattle.planes.proofs.Raster.{area}
 use Rattle.planes.proofs.index.Statement.{statement}
 use Rattle.planes.proofs.index.Tie as tie
-use Rattle.planes.proofs.index.Reads as reads
-use Rattle.planes.proofs.index.Lts as lts
 
 mul-result : tie.Need-mul-result
 mul-result c = omega (arith, index-lt (c .pre .2) (c .pre .3), area (c .args .w) (c .args .h) (c .pre .0) (c .pre .1))

@@ -1,11 +1,10 @@
+-- The first n rows are no more samples than the plane has.
 use native.Mathlib.Omega.{arith}
 use lib.ListN.{length-take}
 use Rattle.planes.proofs.Raster.{area, rows-fit}
 use borrow.Author.Needs.{needs}
 use Rattle.planes.proofs.leading_rows.Statement.{statement}
 use Rattle.planes.proofs.leading_rows.Tie as tie
-use Rattle.planes.proofs.leading_rows.Reads as reads
-use Rattle.planes.proofs.leading_rows.Lts as lts
 
 -- src/lib.rt:140:13
 mul-e : tie.Need-mul-e

@@ -11,11 +11,6 @@ use Rattle.planes.proofs.Blocks.{mid-long, part-fits, part-get}
 use borrow.Author.Needs.{needs}
 use Rattle.planes.proofs.or_pair.Statement.{statement}
 use Rattle.planes.proofs.or_pair.Tie as tie
-use Rattle.planes.proofs.or_pair.Reads as reads
-use Rattle.planes.proofs.or_pair.Lts as lts
-use Rattle.planes.proofs.index.Reads as index-reads
-use Rattle.planes.proofs.or_rows.Reads as or-rows-reads
-use Rattle.planes.proofs.row_below.Reads as row-below-reads
 
 -- src/lib.rt:106:13
 sub-n : tie.Need-sub-n

@@ -1,15 +1,13 @@
-use mathlib.Core.Path.{_≡_, _∙_, sym, ap}
-use Prim.Native.Nat.{ℕ, _-_, _≤_}
+-- The samples passed so far, ORed together.
+use mathlib.Core.Path.{_≡_, _∙_, ap}
+use Prim.Native.Nat.{_-_, _≤_}
 use native.Mathlib.Omega.{arith}
 use lib.ListN.{length, getD}
 use denote.Ref.{now}
-use borrow.Author.Needs.{needs}
 use Rattle.planes.specs.Scans.{together}
 use Rattle.planes.proofs.Scans.{none-together, one-together}
 use Rattle.planes.proofs.or_row.Statement.{statement}
 use Rattle.planes.proofs.or_row.Tie as tie
-use Rattle.planes.proofs.or_row.Reads as reads
-use Rattle.planes.proofs.or_row.Lts as lts
 
 abbrev Inv-loop : tie.InvT-loop
 Inv-loop samples v₀ j₀ v j = (j ≤ length samples) × (v ≡ together (λ j. getD samples j 0) j)

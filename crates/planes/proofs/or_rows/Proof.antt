@@ -1,16 +1,14 @@
-use mathlib.Core.Path.{_≡_, _∙_, sym, ap}
-use Prim.Native.Nat.{ℕ, _-_, _≤_}
+-- The columns passed so far of two rows, ORed together.
+use mathlib.Core.Path.{_≡_, _∙_, ap}
+use Prim.Native.Nat.{_-_, _≤_}
 use native.Mathlib.Omega.{arith}
 use lib.Bits.{bitOr}
 use lib.ListN.{length, getD}
 use denote.Ref.{now}
-use borrow.Author.Needs.{needs}
 use Rattle.planes.specs.Scans.{together}
 use Rattle.planes.proofs.Scans.{none-together, one-together}
 use Rattle.planes.proofs.or_rows.Statement.{statement}
 use Rattle.planes.proofs.or_rows.Tie as tie
-use Rattle.planes.proofs.or_rows.Reads as reads
-use Rattle.planes.proofs.or_rows.Lts as lts
 
 abbrev Inv-loop : tie.InvT-loop
 Inv-loop a b v₀ j₀ v j = (j ≤ length a) × (v ≡ together (λ j. bitOr (getD a j 0) (getD b j 0)) j)

@@ -1,18 +1,14 @@
-use mathlib.Core.Path.{_≡_, refl, sym, ap, _∙_, subst}
-use Prim.Native.Nat.{ℕ, _+_, _-_, _*_, _≤_, _<_}
+-- The rows before the one put are the delivered block's, and the rest is as it was.
+use mathlib.Core.Path.{_∙_, subst}
+use Prim.Native.Nat.{ℕ, _-_, _≤_}
 use native.Mathlib.Nat.{le-antisymm}
 use native.Mathlib.Omega.{arith}
-use lib.ListN.{length, getD}
 use denote.Ref.{now}
 use Rattle.standard.specs.Calls.{Written, delivered}
 use Rattle.planes.specs.Places.{block}
 use Rattle.planes.proofs.Blocks.{no-rows, one-more}
-use borrow.Author.Needs.{needs}
 use Rattle.planes.proofs.put_block.Statement.{statement}
 use Rattle.planes.proofs.put_block.Tie as tie
-use Rattle.planes.proofs.put_block.Reads as reads
-use Rattle.planes.proofs.put_block.Lts as lts
-use Rattle.planes.proofs.put_row.Reads as put-row-reads
 
 abbrev Inv-loop : tie.InvT-loop
 Inv-loop samples plane₀ w h r y₀ plane y = (r .y0 ≤ y) × (y ≤ r .y1) × Written w h (block (r .x0) (r .x1) (r .y0) y) (delivered r samples) plane₀ plane

@@ -1,16 +1,13 @@
-use mathlib.Core.Path.{_≡_, refl, sym, ap, _∙_}
-use Prim.Native.Nat.{ℕ, _+_, _-_, _*_}
+-- A row of the delivered samples and its place in the plane are equally long parts.
+use mathlib.Core.Path.{refl, ap, _∙_}
+use Prim.Native.Nat.{ℕ, _+_, _-_}
 use native.Mathlib.Omega.{arith}
-use lib.ListN.{length, getD}
+use lib.ListN.{getD}
 use denote.Ref.{now}
 use Rattle.planes.proofs.Blocks.{part-fits, part-get, part-written}
 use borrow.Author.Needs.{needs}
 use Rattle.planes.proofs.put_row.Statement.{statement}
 use Rattle.planes.proofs.put_row.Tie as tie
-use Rattle.planes.proofs.put_row.Reads as reads
-use Rattle.planes.proofs.put_row.Lts as lts
-use Rattle.planes.proofs.copy_row.Reads as copy-row-reads
-use Rattle.planes.proofs.index.Reads as index-reads
 
 -- src/lib.rt:43:13
 sub-n : tie.Need-sub-n

@@ -1,16 +1,15 @@
-use mathlib.Core.Path.{_≡_, refl, sym, ap, _∙_, subst}
-use mathlib.Core.Bool.{Bool, true, false}
-use Prim.Native.Nat.{ℕ, _+_, _-_, _≤_, _<_}
+-- Where the OR is not above the top no sample is; elsewhere none before the one looked at is.
+use mathlib.Core.Path.{_≡_, refl}
+use mathlib.Core.Bool.{false}
+use Prim.Native.Nat.{ℕ, _-_, _≤_, _<_}
 use native.Mathlib.Omega.{arith}
+use borrow.Author.Count.{below-more}
 use lib.ListN.{length, getD}
 use denote.Ref.{now}
 use borrow.Author.Needs.{needs}
-use Rattle.planes.proofs.Scans.{none-above, up-to, tells-none}
+use Rattle.planes.proofs.Scans.{none-above, tells-none}
 use Rattle.planes.proofs.sample_above.Statement.{statement}
 use Rattle.planes.proofs.sample_above.Tie as tie
-use Rattle.planes.proofs.sample_above.Reads as reads
-use Rattle.planes.proofs.sample_above.Lts as lts
-use Rattle.planes.proofs.or_row.Reads as or-row-reads
 
 abbrev Inv-loop : tie.InvT-loop
 Inv-loop samples top found₀ j₀ found j = (j ≤ length samples) × (found ≡ false) × ((n : ℕ) → n < j → getD samples n 0 ≤ top)
@@ -54,7 +53,7 @@ loop-again : tie.Need-loop-again Inv-loop μ-loop
 loop-again c =
     let l = c .before .before .before .loop in
     let a = c .before .before .before .before .before .before .before .args in
-    (omega arith, l .inv .1, up-to (λ n. getD (now (a .samples)) n 0 ≤ a .top) (l .j) (l .inv .2) (c .if2 .left))
+    (omega arith, l .inv .1, below-more (λ n. getD (now (a .samples)) n 0 ≤ a .top) (l .j) (l .inv .2) (c .if2 .left))
 
 -- src/lib.rt:90:1
 returns-2 : tie.Need-returns-2 Inv-loop μ-loop

@@ -1,3 +1,4 @@
+-- The sum is small.
 use native.Mathlib.Omega.{arith}
 use Rattle.rows.proofs.band_at.Statement.{statement}
 use Rattle.rows.proofs.band_at.Tie as tie

@@ -1,6 +1,7 @@
+-- The samples before the one looked at are moved by their bands.
 use borrow.Author.Needs.{needs}
-use Prim.Native.Nat.{ℕ, _+_, _≤_, _-_}
-use mathlib.Core.Path.{_≡_, refl, sym, _∙_, subst}
+use Prim.Native.Nat.{_≤_, _-_}
+use mathlib.Core.Path.{sym, subst}
 use native.Mathlib.Omega.{arith}
 use lib.ListN.{length, length-set}
 use Rattle.planes.specs.Places.{Filled}
@@ -10,10 +11,6 @@ use Rattle.rows.specs.Parts.{bandRow}
 use Rattle.rows.proofs.Keys.{bands-distinct, band-moved}
 use Rattle.rows.proofs.band_row.Statement.{statement}
 use Rattle.rows.proofs.band_row.Tie as tie
-use Rattle.rows.proofs.band_row.Reads as reads
-use Rattle.rows.proofs.band_row.Lts as lts
-use Rattle.rows.proofs.bands.Reads as bands-reads
-use Rattle.rows.proofs.band_sample.Reads as band-sample-reads
 
 abbrev Inv-loop : tie.InvT-loop
 Inv-loop m position depth cur out₀ four i₀ out i = (i ≤ length out) × Filled i (bandRow m depth position cur) out₀ out

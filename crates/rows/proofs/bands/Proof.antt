@@ -1,9 +1,7 @@
+-- The four bands from the position on, one by one.
 use borrow.Author.Needs.{needs}
 use Rattle.rows.proofs.bands.Statement.{statement}
 use Rattle.rows.proofs.bands.Tie as tie
-use Rattle.rows.proofs.bands.Reads as reads
-use Rattle.rows.proofs.bands.Lts as lts
-use Rattle.rows.proofs.band_at.Reads as band-at-reads
 
 band-at-requires : tie.Need-band-at-requires
 band-at-requires c κs = search needs

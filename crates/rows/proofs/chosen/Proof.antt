@@ -1,10 +1,8 @@
+-- At most one of the four masks lets its number through.
 use Rattle.rows.proofs.Keys.{chosen-is}
 use borrow.Author.Needs.{needs}
 use Rattle.rows.proofs.chosen.Statement.{statement}
 use Rattle.rows.proofs.chosen.Tie as tie
-use Rattle.rows.proofs.chosen.Reads as reads
-use Rattle.rows.proofs.chosen.Lts as lts
-use Rattle.rows.proofs.only.Reads as only-reads
 
 only-requires : tie.Need-only-requires
 only-requires c κs = search needs

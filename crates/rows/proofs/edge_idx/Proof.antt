@@ -1,3 +1,4 @@
+-- The category of the sum of the two signs is edgeIdx.
 use mathlib.Core.Path.{ap, _∙_}
 use lib.IntN.{pos, _-ℤ_}
 use Rattle.standard.specs.Samples.{edgeIdx, edgeIdxOf}
@@ -5,10 +6,6 @@ use Rattle.rows.proofs.Signs.{sum-fits, sum-of}
 use borrow.Author.Needs.{needs}
 use Rattle.rows.proofs.edge_idx.Statement.{statement}
 use Rattle.rows.proofs.edge_idx.Tie as tie
-use Rattle.rows.proofs.edge_idx.Reads as reads
-use Rattle.rows.proofs.edge_idx.Lts as lts
-use Rattle.rows.proofs.category.Reads as category-reads
-use Rattle.rows.proofs.sign_of.Reads as sign-of-reads
 
 sign-of-requires : tie.Need-sign-of-requires
 sign-of-requires c κs = search needs

@@ -1,6 +1,6 @@
+-- The samples before the one looked at are moved by their neighbours.
 use borrow.Author.Needs.{needs}
-use Prim.Native.Nat.{ℕ, _+_, _≤_, _-_}
-use mathlib.Core.Path.{_≡_, refl, sym, _∙_}
+use Prim.Native.Nat.{_≤_, _-_}
 use native.Mathlib.Omega.{arith}
 use lib.ListN.{length, length-set}
 use Rattle.planes.specs.Places.{Filled}
@@ -8,9 +8,6 @@ use Rattle.planes.proofs.Fill.{none-filled, one-filled, all-filled}
 use Rattle.rows.specs.Parts.{edgeRow}
 use Rattle.rows.proofs.edge_row.Statement.{statement}
 use Rattle.rows.proofs.edge_row.Tie as tie
-use Rattle.rows.proofs.edge_row.Reads as reads
-use Rattle.rows.proofs.edge_row.Lts as lts
-use Rattle.rows.proofs.edge_sample.Reads as edge-sample-reads
 
 abbrev Inv-loop : tie.InvT-loop
 Inv-loop m cur a b out₀ i₀ out i = (i ≤ length out) × Filled i (edgeRow m cur a b) out₀ out

@@ -1,13 +1,10 @@
+-- A sample is moved by the offset of its category.
 use mathlib.Core.Path.{ap, _∙_}
 use Prim.Native.Nat.{ℕ}
 use Rattle.rows.specs.Moves.{moved}
 use borrow.Author.Needs.{needs}
 use Rattle.rows.proofs.edge_sample.Statement.{statement}
 use Rattle.rows.proofs.edge_sample.Tie as tie
-use Rattle.rows.proofs.edge_sample.Reads as reads
-use Rattle.rows.proofs.edge_sample.Lts as lts
-use Rattle.rows.proofs.edge_idx.Reads as edge-idx-reads
-use Rattle.rows.proofs.move_sample.Reads as move-sample-reads
 
 edge-idx-requires : tie.Need-edge-idx-requires
 edge-idx-requires c κs = search needs

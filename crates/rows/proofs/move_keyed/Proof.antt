@@ -1,3 +1,4 @@
+-- The fall and the rise that the key chooses, and then the shift.
 use mathlib.Core.Path.{ap₂, _∙_}
 use Prim.Native.Nat.{ℕ, _+_, _-_, min}
 use native.Mathlib.Omega.{arith}
@@ -6,10 +7,6 @@ use Rattle.rows.proofs.Shifts.{rise-le}
 use borrow.Author.Needs.{needs}
 use Rattle.rows.proofs.move_keyed.Statement.{statement}
 use Rattle.rows.proofs.move_keyed.Tie as tie
-use Rattle.rows.proofs.move_keyed.Reads as reads
-use Rattle.rows.proofs.move_keyed.Lts as lts
-use Rattle.rows.proofs.chosen.Reads as chosen-reads
-use Rattle.rows.proofs.shifted.Reads as shifted-reads
 
 chosen-requires : tie.Need-chosen-requires
 chosen-requires c κs = search needs

@@ -1,3 +1,4 @@
+-- The fall and the rise of the index, and then the shift.
 use mathlib.Core.Path.{ap₂, _∙_}
 use Prim.Native.Nat.{ℕ, _+_, _-_, min}
 use native.Mathlib.Omega.{arith}
@@ -6,10 +7,6 @@ use Rattle.rows.proofs.Shifts.{rise-le}
 use borrow.Author.Needs.{needs}
 use Rattle.rows.proofs.move_sample.Statement.{statement}
 use Rattle.rows.proofs.move_sample.Tie as tie
-use Rattle.rows.proofs.move_sample.Reads as reads
-use Rattle.rows.proofs.move_sample.Lts as lts
-use Rattle.rows.proofs.pick.Reads as pick-reads
-use Rattle.rows.proofs.shifted.Reads as shifted-reads
 
 pick-requires : tie.Need-pick-requires
 pick-requires c κs = search needs

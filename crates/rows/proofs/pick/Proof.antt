@@ -1,9 +1,8 @@
+-- Indices 1 to 4 by name, and 0 for every other.
 use Rattle.rows.proofs.Shifts.{pick-rest}
 use borrow.Author.Needs.{needs}
 use Rattle.rows.proofs.pick.Statement.{statement}
 use Rattle.rows.proofs.pick.Tie as tie
-use Rattle.rows.proofs.pick.Reads as reads
-use Rattle.rows.proofs.pick.Lts as lts
 
 returns : tie.Need-returns
 returns c = search needs

@@ -1,7 +1,8 @@
+-- Below, above or equal is the sign of the difference.
 use mathlib.Core.Path.{_≡_, sym, ap, _∙_}
 use Prim.Native.Nat.{ℕ}
 use native.Mathlib.Omega.{arith}
-use lib.IntN.{ℤ, pos, _-ℤ_}
+use lib.IntN.{pos, _-ℤ_}
 use Rattle.standard.specs.Samples.{sign}
 use Rattle.rows.proofs.Signs.{sign-lt, sign-eq, sign-gt}
 use Rattle.rows.proofs.sign_of.Statement.{statement}

@@ -1,3 +1,4 @@
+-- Where the answer is yes, all three are.
 use mathlib.Core.Path.{_≡_}
 use Prim.Native.Nat.{ℕ}
 use native.Mathlib.Omega.{arith}

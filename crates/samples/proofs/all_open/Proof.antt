@@ -1,3 +1,4 @@
+-- Where the answer is yes, all nine are.
 use mathlib.Core.Path.{_≡_, subst}
 use Prim.Native.Nat.{ℕ}
 use native.Mathlib.Omega.{arith}

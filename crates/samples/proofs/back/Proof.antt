@@ -1,10 +1,9 @@
+-- The column before the first lies before the block, and the one before any other within it.
 use mathlib.Core.Path.{sym}
 use native.Mathlib.Omega.{arith}
 use Rattle.samples.proofs.Sides.{back-first, back-later}
 use Rattle.samples.proofs.back.Statement.{statement}
 use Rattle.samples.proofs.back.Tie as tie
-use Rattle.samples.proofs.back.Reads as reads
-use Rattle.samples.proofs.back.Lts as lts
 
 returns : tie.Need-returns
 returns c b h = sym (back-first (c .before .args .a) b (c .before .args .x) (c .if1 .taken))

@@ -1,4 +1,5 @@
-use mathlib.Core.Path.{_≡_, refl, ap, _∙_}
+-- The part of the plane and that of the output are equally long, and a sample's place in them is its column's.
+use mathlib.Core.Path.{refl, ap}
 use Prim.Native.Nat.{ℕ, _+_, _-_}
 use native.Mathlib.Omega.{arith}
 use denote.Ref.{now}
@@ -8,10 +9,6 @@ use Rattle.planes.proofs.Blocks.{part-fits, part-get, part-written}
 use borrow.Author.Needs.{needs}
 use Rattle.samples.proofs.band_line.Statement.{statement}
 use Rattle.samples.proofs.band_line.Tie as tie
-use Rattle.samples.proofs.band_line.Reads as reads
-use Rattle.samples.proofs.band_line.Lts as lts
-use Rattle.planes.proofs.index.Reads as index-reads
-use Rattle.rows.proofs.band_row.Reads as band-row-reads
 
 index-requires : tie.Need-index-requires
 index-requires c κs = search needs

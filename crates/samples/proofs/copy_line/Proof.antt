@@ -1,15 +1,12 @@
-use mathlib.Core.Path.{_≡_, refl, ap, _∙_}
-use Prim.Native.Nat.{ℕ, _+_, _-_}
+-- The part of the plane and that of the output are equally long, and a sample's place in them is its column's.
+use mathlib.Core.Path.{refl}
+use Prim.Native.Nat.{_+_, _-_}
 use native.Mathlib.Omega.{arith}
 use denote.Ref.{now}
 use Rattle.planes.proofs.Blocks.{part-fits, part-get, part-written}
 use borrow.Author.Needs.{needs}
 use Rattle.samples.proofs.copy_line.Statement.{statement}
 use Rattle.samples.proofs.copy_line.Tie as tie
-use Rattle.samples.proofs.copy_line.Reads as reads
-use Rattle.samples.proofs.copy_line.Lts as lts
-use Rattle.planes.proofs.index.Reads as index-reads
-use Rattle.planes.proofs.copy_row.Reads as copy-row-reads
 
 index-requires : tie.Need-index-requires
 index-requires c κs = search needs

@@ -1,4 +1,5 @@
-use Prim.Native.Nat.{ℕ, _+_, _-_, _≤_, _<_}
+-- The rows before the one copied are the plane's, and the rest is as it was.
+use Prim.Native.Nat.{_-_, _≤_}
 use native.Mathlib.Omega.{arith}
 use Rattle.standard.specs.Samples.{at}
 use Rattle.standard.specs.Calls.{Written}
@@ -7,9 +8,6 @@ use Rattle.planes.proofs.Blocks.{no-rows, none-written, one-more}
 use Rattle.samples.proofs.Assembly.{at-end, lent-row}
 use Rattle.samples.proofs.copy_rows.Statement.{statement}
 use Rattle.samples.proofs.copy_rows.Tie as tie
-use Rattle.samples.proofs.copy_rows.Reads as reads
-use Rattle.samples.proofs.copy_rows.Lts as lts
-use Rattle.samples.proofs.copy_line.Reads as copy-line-reads
 
 abbrev Inv-loop : tie.InvT-loop
 Inv-loop l r plane out₀ y₀ out y = (r .y0 ≤ y) × (y ≤ r .y1) × Written (l .width) (l .height) (block (r .x0) (r .x1) (r .y0) y) (at plane (l .width)) out₀ out

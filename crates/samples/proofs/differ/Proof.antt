@@ -1,3 +1,4 @@
+-- Equal answers give 0, and others 1.
 use mathlib.Core.Path.{_≡_, refl}
 use mathlib.Core.Bool.{Bool, true, false, Bool·beq}
 use mathlib.Core.Logic.{inl, inr}

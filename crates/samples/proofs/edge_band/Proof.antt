@@ -1,5 +1,6 @@
+-- Rows that are parted alike: left, middle and right part, each written by what is open in it.
 use denote.Ref.{now}
-use mathlib.Core.Path.{_≡_, refl, _∙_}
+use mathlib.Core.Path.{refl, _∙_}
 use native.Mathlib.Omega.{arith}
 use Rattle.samples.specs.Steps.{stepTo}
 use Rattle.planes.specs.Places.{block}
@@ -8,33 +9,21 @@ use Rattle.samples.proofs.Open.{Part, part-reach, part-is, first-part, 
 use borrow.Author.Needs.{needs}
 use Rattle.samples.proofs.edge_band.Statement.{statement}
 use Rattle.samples.proofs.edge_band.Tie as tie
-use Rattle.samples.proofs.edge_band.Reads as reads
-use Rattle.samples.proofs.edge_band.Lts as lts
-use Rattle.samples.proofs.edge_part.Reads as edge-part-reads
-use Rattle.samples.proofs.first_step.Reads as first-step-reads
-use Rattle.samples.proofs.runs_of.Reads as runs-of-reads
-use Rattle.samples.proofs.second_step.Reads as second-step-reads
 
 -- from the cut of a row to the start
 abbrev start : tie.After-runs-of → tie.Start
-start k = k .before .before .before .before .before .before
+start k = k .before .before .before .before
 
 -- the three parts
 module _ (k : tie.After-runs-of) where
-  first : Part (start k .args .o) (start k .args .r) (start k .args .class) (block (start k .args .r .x0) (k .runs-of .result .c) (start k .args .y0) (start k .args .y1)) (k .runs-of .result .first)
-  first = first-part (start k .args .o) (start k .args .r) (start k .args .class) (start k .args .y0) (start k .args .y1) (start k .pre .1 .0) (start k .pre .1 .2) (start k .pre .1 .3) _ (k .runs-of .ensures)
+  first : Part (start k .args .o) (start k .args .r) (stepTo (start k .args .a)) (stepTo (start k .args .b)) (block (start k .args .r .x0) (k .runs-of .result .c) (start k .args .y0) (start k .args .y1)) (k .runs-of .result .first)
+  first = first-part (start k .args .o) (start k .args .r) (stepTo (start k .args .a)) (stepTo (start k .args .b)) (start k .args .y0) (start k .args .y1) (start k .pre .1 .0) (start k .pre .1 .2) (start k .pre .1 .3) _ (k .runs-of .ensures)
 
-  middle : Part (start k .args .o) (start k .args .r) (start k .args .class) (block (k .runs-of .result .c) (k .runs-of .result .d) (start k .args .y0) (start k .args .y1)) (k .runs-of .result .middle)
-  middle = middle-part (start k .args .o) (start k .args .r) (start k .args .class) (start k .args .y0) (start k .args .y1) (start k .pre .1 .0) (start k .pre .1 .2) (start k .pre .1 .3) _ (k .runs-of .ensures)
+  middle : Part (start k .args .o) (start k .args .r) (stepTo (start k .args .a)) (stepTo (start k .args .b)) (block (k .runs-of .result .c) (k .runs-of .result .d) (start k .args .y0) (start k .args .y1)) (k .runs-of .result .middle)
+  middle = middle-part (start k .args .o) (start k .args .r) (stepTo (start k .args .a)) (stepTo (start k .args .b)) (start k .args .y0) (start k .args .y1) (start k .pre .1 .0) (start k .pre .1 .2) (start k .pre .1 .3) _ (k .runs-of .ensures)
 
-  last : Part (start k .args .o) (start k .args .r) (start k .args .class) (block (k .runs-of .result .d) (start k .args .r .x1) (start k .args .y0) (start k .args .y1)) (k .runs-of .result .last)
-  last = last-part (start k .args .o) (start k .args .r) (start k .args .class) (start k .args .y0) (start k .args .y1) (start k .pre .1 .0) (start k .pre .1 .2) (start k .pre .1 .3) _ (k .runs-of .ensures)
-
-first-step-requires : tie.Need-first-step-requires
-first-step-requires c κs = search needs
-
-second-step-requires : tie.Need-second-step-requires
-second-step-requires c κs = search needs
+  last : Part (start k .args .o) (start k .args .r) (stepTo (start k .args .a)) (stepTo (start k .args .b)) (block (k .runs-of .result .d) (start k .args .r .x1) (start k .args .y0) (start k .args .y1)) (k .runs-of .result .last)
+  last = last-part (start k .args .o) (start k .args .r) (stepTo (start k .args .a)) (stepTo (start k .args .b)) (start k .args .y0) (start k .args .y1) (start k .pre .1 .0) (start k .pre .1 .2) (start k .pre .1 .3) _ (k .runs-of .ensures)
 
 runs-of-requires : tie.Need-runs-of-requires
 runs-of-requires c κs = search needs
@@ -49,7 +38,7 @@ edge-part-requires c κs =
     let g = k .runs-of .ensures in (
       lent-part (r .lent) (x .r .x0) (n .c) (x .y0) (x .y1) (g .on) (omega (arith, g .order, g .off)) (st .pre .1 .1) (st .pre .1 .2) refl,
       r .room,
-      part-reach (x .l) (x .o) (x .r) (x .class) (block (x .r .x0) (n .c) (x .y0) (x .y1)) _ _ _ (first k) (k .before .before .first-step .ensures) (k .before .second-step .ensures) (r .class-legal) (r .reaches),
+      part-reach (x .l) (x .o) (x .r) (stepTo (x .a)) (stepTo (x .b)) (block (x .r .x0) (n .c) (x .y0) (x .y1)) _ (first k) (r .first-reaches) (r .second-reaches),
     )
 
 edge-part-requires-2 : tie.Need-edge-part-requires-2
@@ -63,7 +52,7 @@ edge-part-requires-2 c κs =
     let g = k .runs-of .ensures in (
       lent-part (r .lent) (n .c) (n .d) (x .y0) (x .y1) (g .order) (g .off) (st .pre .1 .1) (st .pre .1 .2) (w1 .edge-part .ensures .long),
       r .room,
-      part-reach (x .l) (x .o) (x .r) (x .class) (block (n .c) (n .d) (x .y0) (x .y1)) _ _ _ (middle k) (k .before .before .first-step .ensures) (k .before .second-step .ensures) (r .class-legal) (r .reaches),
+      part-reach (x .l) (x .o) (x .r) (stepTo (x .a)) (stepTo (x .b)) (block (n .c) (n .d) (x .y0) (x .y1)) _ (middle k) (r .first-reaches) (r .second-reaches),
     )
 
 edge-part-requires-3 : tie.Need-edge-part-requires-3
@@ -78,7 +67,7 @@ edge-part-requires-3 c κs =
     let g = k .runs-of .ensures in (
       lent-part (r .lent) (n .d) (x .r .x1) (x .y0) (x .y1) (g .off) (omega arith) (st .pre .1 .1) (st .pre .1 .2) (w2 .edge-part2 .ensures .long ∙ w1 .edge-part .ensures .long),
       r .room,
-      part-reach (x .l) (x .o) (x .r) (x .class) (block (n .d) (x .r .x1) (x .y0) (x .y1)) _ _ _ (last k) (k .before .before .first-step .ensures) (k .before .second-step .ensures) (r .class-legal) (r .reaches),
+      part-reach (x .l) (x .o) (x .r) (stepTo (x .a)) (stepTo (x .b)) (block (n .d) (x .r .x1) (x .y0) (x .y1)) _ (last k) (r .first-reaches) (r .second-reaches),
     )
 
 same-length : tie.Need-same-length
@@ -95,12 +84,10 @@ returns c =
     let r = st .pre .0 in
     let n = k .runs-of .result in
     let g = k .runs-of .ensures in
-    let a = k .before .before .first-step .ensures in
-    let b = k .before .second-step .ensures in
     beside-one-another (x .r .x0) (n .c) (n .d) (x .r .x1) (x .y0) (x .y1) (g .on) (g .order) (g .off)
-    (part-is (x .l) (x .o) (x .r) (x .class) (block (x .r .x0) (n .c) (x .y0) (x .y1)) (n .first) _ _ (first k) a b (x .m) (now (x .plane)) (r .under) (w1 .edge-part .ensures))
-    (part-is (x .l) (x .o) (x .r) (x .class) (block (n .c) (n .d) (x .y0) (x .y1)) (n .middle) _ _ (middle k) a b (x .m) (now (x .plane)) (r .under) (w2 .edge-part2 .ensures))
-    (part-is (x .l) (x .o) (x .r) (x .class) (block (n .d) (x .r .x1) (x .y0) (x .y1)) (n .last) _ _ (last k) a b (x .m) (now (x .plane)) (r .under) (w3 .edge-part3 .ensures))
+    (part-is (x .l) (x .o) (x .r) (stepTo (x .a)) (stepTo (x .b)) (block (x .r .x0) (n .c) (x .y0) (x .y1)) (n .first) (first k) (x .m) (now (x .plane)) (r .under) (w1 .edge-part .ensures))
+    (part-is (x .l) (x .o) (x .r) (stepTo (x .a)) (stepTo (x .b)) (block (n .c) (n .d) (x .y0) (x .y1)) (n .middle) (middle k) (x .m) (now (x .plane)) (r .under) (w2 .edge-part2 .ensures))
+    (part-is (x .l) (x .o) (x .r) (stepTo (x .a)) (stepTo (x .b)) (block (n .d) (x .r .x1) (x .y0) (x .y1)) (n .last) (last k) (x .m) (now (x .plane)) (r .under) (w3 .edge-part3 .ensures))
 
 returns-2 : tie.Need-returns-2
 returns-2 c = search needs
@@ -109,8 +96,6 @@ pub edge-band-spec : {M : Type 1} → statement M
 edge-band-spec =
     tie.close
     (tie.spec
-    first-step-requires
-    second-step-requires
     runs-of-requires
     edge-part-requires
     edge-part-requires-2

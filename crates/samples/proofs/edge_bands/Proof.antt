@@ -1,16 +1,13 @@
-use denote.Ref.{now}
-use mathlib.Core.Path.{_≡_, refl, _∙_}
+-- The first row, those between and the last are each parted alike, and together they are the block.
+use mathlib.Core.Path.{_∙_}
 use Prim.Native.Nat.{_+_}
 use native.Mathlib.Omega.{arith}
+use Rattle.samples.specs.Steps.{stepTo}
 use Rattle.samples.proofs.Assembly.{below-one-another}
 use Rattle.samples.proofs.Bands.{ready-after, alike-first, alike-between, alike-last}
 use borrow.Author.Needs.{needs}
 use Rattle.samples.proofs.edge_bands.Statement.{statement}
 use Rattle.samples.proofs.edge_bands.Tie as tie
-use Rattle.samples.proofs.edge_bands.Reads as reads
-use Rattle.samples.proofs.edge_bands.Lts as lts
-use Rattle.samples.proofs.edge_band.Reads as edge-band-reads
-use Rattle.samples.proofs.last_from.Reads as last-from-reads
 
 add-t : tie.Need-add-t
 add-t c = search needs
@@ -24,7 +21,7 @@ edge-band-requires c κs =
     let st = u .before .before .before .before in
     let x = st .args in
     let r = st .pre in
-    (r, (omega arith, omega arith, omega (arith, r .some-rows), alike-first (x .o) (x .r) (x .class)))
+    (r, (omega arith, omega arith, omega (arith, r .some-rows), alike-first (x .o) (x .r) (stepTo (x .a)) (stepTo (x .b))))
 
 edge-band-requires-2 : tie.Need-edge-band-requires-2
 edge-band-requires-2 c κs =
@@ -34,7 +31,7 @@ edge-band-requires-2 c κs =
     let x = st .args in
     let r = st .pre in
     let e = u .last-from .ensures in
-    (ready-after r (w1 .edge-band .ensures .long), (omega arith, omega (arith, e), omega (arith, e, r .some-rows), alike-between (x .o) (x .r) (x .class) _ e (r .some-rows)))
+    (ready-after r (w1 .edge-band .ensures .long), (omega arith, omega (arith, e), omega (arith, e, r .some-rows), alike-between (x .o) (x .r) (stepTo (x .a)) (stepTo (x .b)) _ e (r .some-rows) (r .first-by-one) (r .second-by-one)))
 
 edge-band-requires-3 : tie.Need-edge-band-requires-3
 edge-band-requires-3 c κs =
@@ -45,7 +42,7 @@ edge-band-requires-3 c κs =
     let x = st .args in
     let r = st .pre in
     let e = u .last-from .ensures in
-    (ready-after r (w2 .edge-band2 .ensures .long ∙ w1 .edge-band .ensures .long), (omega (arith, e), omega (arith, e, r .some-rows), omega arith, alike-last (x .o) (x .r) (x .class) _ e (r .some-rows)))
+    (ready-after r (w2 .edge-band2 .ensures .long ∙ w1 .edge-band .ensures .long), (omega (arith, e), omega (arith, e, r .some-rows), omega arith, alike-last (x .o) (x .r) (stepTo (x .a)) (stepTo (x .b)) _ e (r .some-rows)))
 
 same-length : tie.Need-same-length
 same-length c = search needs

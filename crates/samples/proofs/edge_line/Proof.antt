@@ -1,6 +1,7 @@
-use mathlib.Core.Path.{_≡_, refl, sym, ap, _∙_}
+-- The parts of the neighbours are as long as the row's, a step away.
+use mathlib.Core.Path.{_≡_, refl}
 use mathlib.Core.Option.{Option}
-use Prim.Native.Nat.{ℕ, _+_, _-_, _*_, _≤_}
+use Prim.Native.Nat.{ℕ, _+_, _-_, _≤_}
 use native.Mathlib.Omega.{arith}
 use denote.Ref.{now}
 use lib.ListN.{length}
@@ -10,15 +11,10 @@ use Rattle.planes.proofs.Raster.{area}
 use Rattle.rows.specs.declared.Moves.{Moves}
 use Rattle.rows.specs.Moves.{moved}
 use Rattle.samples.specs.Steps.{stepTo}
-use Rattle.samples.proofs.Reach.{start-place, part-inside, part-neighbour}
+use Rattle.samples.proofs.Reach.{start-in, part-inside, part-neighbour}
 use borrow.Author.Needs.{needs}
 use Rattle.samples.proofs.edge_line.Statement.{statement}
 use Rattle.samples.proofs.edge_line.Tie as tie
-use Rattle.samples.proofs.edge_line.Reads as reads
-use Rattle.samples.proofs.edge_line.Lts as lts
-use Rattle.planes.proofs.index.Reads as index-reads
-use Rattle.rows.proofs.edge_row.Reads as edge-row-reads
-use Rattle.samples.proofs.place.Reads as place-reads
 
 -- a sample and its neighbours, by other names
 edge-at : (m : Moves) {s s′ : ℕ} {a a′ b b′ : Option ℕ} → s ≡ s′ → a ≡ a′ → b ≡ b′ → moved m (edgeIdxOf s a b) s ≡ moved m (edgeIdxOf s′ a′ b′) s′
@@ -52,14 +48,14 @@ place-requires c κs =
     let st = c .before .before .before in
     let x = st .args in
     let k = st .pre .0 .0 in
-    ((k .wide, k .high, omega (arith, st .pre .0 .1, k .right, k .wide), omega (arith, k .bottom, k .high)), start-place (x .l) (stepTo (x .a)) (x .x0) (x .x1) (x .y) (st .pre .0 .1) (st .pre .1 .1))
+    ((k .wide, k .high, omega (arith, st .pre .0 .1, k .right, k .wide), omega (arith, k .bottom, k .high)), start-in (x .l) (stepTo (x .a)) (x .x0) (x .x1) (x .y) (st .pre .0 .1) (st .pre .1 .1))
 
 place-requires-2 : tie.Need-place-requires-2
 place-requires-2 c κs =
     let st = c .before .before .before .before in
     let x = st .args in
     let k = st .pre .0 .0 in
-    ((k .wide, k .high, omega (arith, st .pre .0 .1, k .right, k .wide), omega (arith, k .bottom, k .high)), start-place (x .l) (stepTo (x .b)) (x .x0) (x .x1) (x .y) (st .pre .0 .1) (st .pre .1 .2))
+    ((k .wide, k .high, omega (arith, st .pre .0 .1, k .right, k .wide), omega (arith, k .bottom, k .high)), start-in (x .l) (stepTo (x .b)) (x .x0) (x .x1) (x .y) (st .pre .0 .1) (st .pre .1 .2))
 
 add-ie : tie.Need-add-ie
 add-ie c = search needs

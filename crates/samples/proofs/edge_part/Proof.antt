@@ -1,13 +1,10 @@
+-- A part whose neighbours may be compared goes by edge, another stays.
 use denote.Ref.{now}
 use Rattle.samples.specs.Steps.{stepTo}
 use Rattle.samples.proofs.Open.{by-answer}
 use borrow.Author.Needs.{needs}
 use Rattle.samples.proofs.edge_part.Statement.{statement}
 use Rattle.samples.proofs.edge_part.Tie as tie
-use Rattle.samples.proofs.edge_part.Reads as reads
-use Rattle.samples.proofs.edge_part.Lts as lts
-use Rattle.samples.proofs.copy_rows.Reads as copy-rows-reads
-use Rattle.samples.proofs.edge_rows.Reads as edge-rows-reads
 
 edge-rows-requires : tie.Need-edge-rows-requires
 edge-rows-requires c κs =

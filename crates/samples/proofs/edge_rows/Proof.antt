@@ -1,4 +1,5 @@
-use Prim.Native.Nat.{ℕ, _+_, _-_, _≤_, _<_}
+-- The rows before the one filtered are by edge, and the rest is as it was.
+use Prim.Native.Nat.{_-_, _≤_}
 use native.Mathlib.Omega.{arith}
 use Rattle.standard.specs.Calls.{Written}
 use Rattle.planes.specs.Places.{block}
@@ -9,9 +10,6 @@ use Rattle.samples.proofs.Assembly.{at-end, lent-row}
 use Rattle.samples.proofs.Reach.{reach-row}
 use Rattle.samples.proofs.edge_rows.Statement.{statement}
 use Rattle.samples.proofs.edge_rows.Tie as tie
-use Rattle.samples.proofs.edge_rows.Reads as reads
-use Rattle.samples.proofs.edge_rows.Lts as lts
-use Rattle.samples.proofs.edge_line.Reads as edge-line-reads
 
 abbrev Inv-loop : tie.InvT-loop
 Inv-loop l m a b r plane out₀ y₀ out y = (r .y0 ≤ y) × (y ≤ r .y1) × Written (l .width) (l .height) (block (r .x0) (r .x1) (r .y0) y) (compared l m (stepTo a) (stepTo b) plane) out₀ out

@@ -1,9 +1,7 @@
+-- An answer is yes where the block ends before the picture does, and at a corner where both are.
 use borrow.Author.Needs.{needs}
 use Rattle.samples.proofs.in_picture.Statement.{statement}
 use Rattle.samples.proofs.in_picture.Tie as tie
-use Rattle.samples.proofs.in_picture.Reads as reads
-use Rattle.samples.proofs.in_picture.Lts as lts
-use Rattle.samples.proofs.also.Reads as also-reads
 use lib.Dec.{ltb}
 
 also-requires : tie.Need-also-requires

@@ -1,13 +1,10 @@
+-- The offsets scaled, and what they do at the depth.
 use mathlib.Core.Path.{ap, _∙_}
 use Rattle.rows.specs.Moves.{movesOf}
 use Rattle.samples.proofs.Machine.{offsets-back}
 use borrow.Author.Needs.{needs}
 use Rattle.samples.proofs.moves_for.Statement.{statement}
 use Rattle.samples.proofs.moves_for.Tie as tie
-use Rattle.samples.proofs.moves_for.Reads as reads
-use Rattle.samples.proofs.moves_for.Lts as lts
-use Rattle.rows.proofs.moves_of.Reads as moves-of-reads
-use Rattle.rows.proofs.scaled_by.Reads as scaled-by-reads
 
 scaled-by-requires : tie.Need-scaled-by-requires
 scaled-by-requires c κs = search needs

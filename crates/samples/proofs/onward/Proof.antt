@@ -1,11 +1,10 @@
+-- The column after the last lies after the block, and the one after any other within it.
 use mathlib.Core.Path.{sym}
 use native.Mathlib.Omega.{arith}
 use Rattle.samples.proofs.Sides.{on-last, on-earlier}
 use borrow.Author.Needs.{needs}
 use Rattle.samples.proofs.onward.Statement.{statement}
 use Rattle.samples.proofs.onward.Tie as tie
-use Rattle.samples.proofs.onward.Reads as reads
-use Rattle.samples.proofs.onward.Lts as lts
 
 add-if1 : tie.Need-add-if1
 add-if1 c = search needs

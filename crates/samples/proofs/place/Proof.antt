@@ -1,28 +1,25 @@
+-- The neighbour is in the picture, so its column and row have a place there.
 use mathlib.Core.Path.{ap₂, _∙_}
 use Prim.Native.Nat.{ℕ, _+_, _*_}
 use native.Mathlib.Omega.{arith}
-use Rattle.samples.specs.Steps.{stepTo}
+use Rattle.standard.proofs.Counting.{in-place}
 use Rattle.samples.proofs.Machine.{step-back}
 use Rattle.samples.proofs.Reach.{place-across, place-down}
 use borrow.Author.Needs.{needs}
 use Rattle.samples.proofs.place.Statement.{statement}
 use Rattle.samples.proofs.place.Tie as tie
-use Rattle.samples.proofs.place.Reads as reads
-use Rattle.samples.proofs.place.Lts as lts
-use Rattle.planes.proofs.index.Reads as index-reads
-use Rattle.samples.proofs.stepped.Reads as stepped-reads
 
 stepped-requires : tie.Need-stepped-requires
-stepped-requires c κs = let h = place-across (c .before .pre .1) in search needs
+stepped-requires c κs = let h = place-across (in-place _ _ _ _ (c .before .pre .1)) in search needs
 
 stepped-requires-2 : tie.Need-stepped-requires-2
-stepped-requires-2 c κs = let h = place-down (c .before .before .before .pre .1) in search needs
+stepped-requires-2 c κs = let h = place-down (in-place _ _ _ _ (c .before .before .before .pre .1)) in search needs
 
 index-requires : tie.Need-index-requires
 index-requires c κs =
     let st = c .before .before .before .before in
     let x = st .args in
-    let p = st .pre .1 in
+    let p = in-place _ _ _ _ (st .pre .1) in
     (st .pre .0 .0, st .pre .0 .1, omega (arith, c .before .before .stepped .ensures, step-back (x .x) (x .s .dx) (omega arith)), omega (arith, c .stepped2 .ensures, step-back (x .y) (x .s .dy) (omega arith)))
 
 returns : tie.Need-returns

@@ -1,10 +1,9 @@
+-- The answers of one row of blocks, by the side.
 use mathlib.Core.Path.{sym, ap}
 use Rattle.samples.specs.Around.{rowOf}
 use borrow.Author.Needs.{needs}
 use Rattle.samples.proofs.row_of.Statement.{statement}
 use Rattle.samples.proofs.row_of.Tie as tie
-use Rattle.samples.proofs.row_of.Reads as reads
-use Rattle.samples.proofs.row_of.Lts as lts
 
 enum-told : tie.Need-enum-told
 enum-told c = search needs

@@ -1,15 +1,12 @@
+-- Between the first column and the last all are open alike.
 use native.Mathlib.Omega.{arith}
+use Rattle.samples.specs.Steps.{stepTo}
 use Rattle.samples.specs.Around.{isOpen}
 use Rattle.samples.proofs.Sides.{open-columns}
 use Rattle.samples.proofs.Parts.{differ-small, parted}
 use borrow.Author.Needs.{needs}
 use Rattle.samples.proofs.runs_of.Statement.{statement}
 use Rattle.samples.proofs.runs_of.Tie as tie
-use Rattle.samples.proofs.runs_of.Reads as reads
-use Rattle.samples.proofs.runs_of.Lts as lts
-use Rattle.samples.proofs.differ.Reads as differ-reads
-use Rattle.samples.proofs.is_open.Reads as is-open-reads
-use Rattle.samples.proofs.second.Reads as second-reads
 
 sub-z : tie.Need-sub-z
 sub-z c = search needs
@@ -48,7 +45,7 @@ returns c =
     let e = i1 .before in
     let st = e .before .before in
     let x = st .args in
-    parted (λ n. isOpen (x .o) (x .r) (x .class) n (x .y)) (x .r .x0) (x .r .x1) (st .pre .0 .0 .1) (λ u v. open-columns (x .o) (x .r) (x .class) u v (x .y))
+    parted (λ n. isOpen (x .o) (x .r) (stepTo (x .a)) (stepTo (x .b)) n (x .y)) (x .r .x0) (x .r .x1) (st .pre .0 .0 .1) (λ u v. open-columns (x .o) (x .r) (stepTo (x .a)) (stepTo (x .b)) (st .pre .3) (st .pre .4) u v (x .y))
     (i1 .is-open .result) (i2 .is-open2 .result) (i3 .is-open3 .result) (e .second .result) (d1 .differ .result) (d2 .differ2 .result)
     (e .second .ensures) (i1 .is-open .ensures) (i2 .is-open2 .ensures) (i3 .is-open3 .ensures) (d1 .differ .ensures) (d2 .differ2 .ensures)
 

@@ -1,11 +1,10 @@
+-- A sum that is not negative is its own magnitude.
 use mathlib.Core.Path.{ap}
 use lib.IntN.{natAbs}
 use Rattle.samples.proofs.Machine.{wide-fits, sum-fits, sum-back, sum-natural}
 use borrow.Author.Needs.{needs}
 use Rattle.samples.proofs.stepped.Statement.{statement}
 use Rattle.samples.proofs.stepped.Tie as tie
-use Rattle.samples.proofs.stepped.Reads as reads
-use Rattle.samples.proofs.stepped.Lts as lts
 
 cast-result : tie.Need-cast-result
 cast-result c = search needs

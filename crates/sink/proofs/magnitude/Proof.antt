@@ -5,9 +5,6 @@ use Prim.Native.Nat.{ℕ, _-_, _<_, _≤_}
 use Rattle.sink.proofs.Signed.{below, above, coded-back}
 use Rattle.sink.proofs.magnitude.Statement.{statement}
 use Rattle.sink.proofs.magnitude.Tie as tie
-use Rattle.sink.proofs.magnitude.Reads as reads
-use Rattle.sink.proofs.magnitude.Lts as lts
-use Rattle.sink.proofs.code.Reads as code-reads
 
 code-requires : tie.Need-code-requires
 code-requires c κs = search needs

@@ -1,9 +1,11 @@
--- What the companion and `finished_rows` ensure, of the state that the numbers are and the component's number in a byte, is what crosses: a
--- refusal's number, or 0 and the two numbers of the finished rows.
+-- What the companion ensures, of the state that the numbers are and the component's number in a byte, is what crosses: a refusal's number, or
+-- 0 and the two numbers of the finished rows, the second of the part that has as many rows as the first says.
 use mathlib.Core.List.{List, [], _∷_}
 use mathlib.Core.Logic.{inl}
-use mathlib.Core.Path.{_≡_, refl, ap, subst, subst₂, subst₃}
-use Prim.Native.Nat.{ℕ}
+use mathlib.Core.Path.{_≡_, refl, ap, _∙_, subst, subst₂, subst₃}
+use Prim.Native.Nat.{ℕ, _*_, _≤_}
+use native.Mathlib.Nat.{mul-le-mul}
+use native.Mathlib.Omega.{arith}
 use denote.Ref.{now}
 use lib.ListN.{length}
 use borrow.Author.Needs.{needs}
@@ -11,10 +13,13 @@ use Rattle.standard.specs.declared.RowsAnswer.{RowsAnswer}
 use Rattle.standard.specs.declared.RowsAnswer.the-variants.{Rows, Refused}
 use Rattle.standard.specs.declared.State.{State}
 use Rattle.standard.specs.Refusals.{Reason, numberOf}
-use Rattle.standard.specs.Reasons.{Planes, rowsReasons}
-use Rattle.standard.specs.Calls.{FinishedRows}
-use Rattle.standard.specs.Contracts.{RowsDecides, PartEnsures}
+use Rattle.standard.specs.Reasons.{Planes, planeOf, rowsReasons}
+use Rattle.standard.specs.Calls.{FinishedRows, leading}
+use Rattle.standard.specs.Contracts.{RowsDecides}
 use Rattle.standard.proofs.Answers.{passed, failed}
+use Rattle.standard.proofs.Divisors.{plane-height}
+use Rattle.standard.proofs.Granted.{MayCount, may-count}
+use Rattle.finishing.proofs.Finishing.{few, leading-long}
 use Rattle.steamgusset.specs.Boundary.{Held, stateOf, inByte}
 use Rattle.steamgusset.specs.Exports.{RowsInto}
 use Rattle.steamgusset.proofs.Crossing.{refused, accepted}
@@ -60,21 +65,37 @@ said c o e =
     let b = c .before in
     subst₃ (Says (start b)) (b .before .state-of .ensures) (b .in-byte .ensures) e (c .finished-count .ensures .0)
 
--- by the part that is handed out
-abbrev Handed : tie.After-finished-rows → State → ℕ → Type 0
-Handed c s i =
-    let t = start (c .before .before .before .before .before) in
-    PartEnsures s i (F t) (now (t .args .marks)) (now (c .finished-rows .result))
+-- where it is a number of rows
+abbrev count : tie.After-known-told2 → tie.After-finished-count
+count c = c .before .before .before
 
-handed : (c : tie.After-finished-rows) → let t = start (c .before .before .before .before .before) in Handed c (S t) (inByte (t .args .component))
-handed c =
-    let b = c .before .before .before .before .before in
-    subst₂ (Handed c) (b .before .state-of .ensures) (b .in-byte .ensures) (c .finished-rows .ensures)
+abbrev N : tie.After-known-told2 → ℕ
+N c = c .before .a2 .given .0 .0
+
+rows-said : (c : tie.After-known-told2) → let b = count c .before in Says (start b) (b .before .state-of .result) (b .in-byte .result) (Rows (N c))
+rows-said c =
+    let b = count c .before in
+    subst (Says (start b) (b .before .state-of .result) (b .in-byte .result)) (c .before .a2 .given .1) (count c .finished-count .ensures .0)
+
+ok : (c : tie.After-known-told2) → let b = count c .before in MayCount (b .before .state-of .result) (b .in-byte .result) (F (start b)) (now (start b .args .marks))
+ok c =
+    let b = count c .before in
+    may-count (b .before .state-of .result) (b .in-byte .result) (F (start b)) (now (start b .args .marks)) (rows-said c .0)
+
+-- of the samples, as many as the part has
+abbrev Long : tie.After-plane-width → State → ℕ → Type 0
+Long c s i = N (c .before) * c .plane-width .result ≡ length (leading s i (N (c .before)) (planeOf (F (start (count (c .before) .before))) i))
+
+long : (c : tie.After-plane-width) → let t = start (count (c .before) .before) in Long c (S t) (inByte (t .args .component))
+long c =
+    let b = count (c .before) .before in
+    subst₂ (Long c) (b .before .state-of .ensures) (b .in-byte .ensures)
+    (ap (λ (w : ℕ). N (c .before) * w) (c .plane-width .ensures .is) ∙ leading-long (ok (c .before)) (rows-said (c .before) .1))
 
 -- ---- what is left
 
-abbrev finished′ : tie.After-finished-rows → List ℕ
-finished′ c = c .before .before .a2 .given .0 .0 ∷ length (now (c .finished-rows .result)) ∷ []
+abbrev finished′ : tie.After-plane-width → List ℕ
+finished′ c = N (c .before) ∷ N (c .before) * c .plane-width .result ∷ []
 
 -- ---- the code
 
@@ -102,8 +123,15 @@ number-requires c κs = search needs
 enum-known-a-2 : tie.Need-enum-known-a-2
 enum-known-a-2 c = search needs
 
-finished-rows-requires : tie.Need-finished-rows-requires
-finished-rows-requires c κs = search needs
+plane-width-requires : tie.Need-plane-width-requires
+plane-width-requires c κs = ok c .rules
+
+mul-samples : tie.Need-mul-samples
+mul-samples c =
+    let b = count (c .before) .before in
+    let h = plane-height (ok (c .before) .rules) (b .in-byte .result) in
+    let n : N (c .before) ≤ 8192 = omega (arith, few (rows-said (c .before) .1), h .most) in
+    omega (arith, mul-le-mul n (c .plane-width .ensures .most))
 
 returns-2 : tie.Need-returns-2
 returns-2 c =
@@ -124,9 +152,9 @@ returns-3 c =
     let h = said d (Rows (n .0 .0)) (n .1) in
     let same = crosses t .clear i (h .0) in
     let g = subst (λ (j : ℕ). Says t (S t) j (Rows (n .0 .0))) same h in
-    let part = subst (Handed f (S t)) same (handed f) .finished (g .0) (n .0 .0) (g .1) in
+    let part = subst (Long f (S t)) same (long f) in
     accepted (R t i) (finished′ f ≡ now (t .args .finished)) (held (else (d .before))) (g .0)
-    (record { rows = n .0 .0; finished = g .1; numbers = ap (λ (l : List ℕ). n .0 .0 ∷ length l ∷ []) part })
+    (record { rows = n .0 .0; finished = g .1; numbers = ap (λ (m : ℕ). n .0 .0 ∷ m ∷ []) part })
 
 pub sg-finished-rows-spec : {M : Type 1} → statement M
 sg-finished-rows-spec =
@@ -140,6 +168,7 @@ sg-finished-rows-spec =
     enum-known-a
     number-requires
     enum-known-a-2
-    finished-rows-requires
+    plane-width-requires
+    mul-samples
     returns-2
     returns-3)

@@ -4,7 +4,6 @@ use mathlib.Core.List.{List}
 use mathlib.Core.Path.{_≡_, refl, ap, _∙_, subst}
 use borrow.Author.Needs.{needs}
 use denote.Ref.{now}
-use lib.ListN.{length}
 use Rattle.standard.specs.declared.State.{State}
 use Rattle.standard.specs.declared.ReadAnswer.{ReadAnswer}
 use Rattle.standard.specs.declared.ReadOutcome.{ReadOutcome}

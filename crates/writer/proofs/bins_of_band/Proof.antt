@@ -10,10 +10,6 @@ use Rattle.standard.proofs.Signed.{backed, four-back}
 use Rattle.writer.proofs.Lengths.{rest-band}
 use Rattle.writer.proofs.bins_of_band.Statement.{statement}
 use Rattle.writer.proofs.bins_of_band.Tie as tie
-use Rattle.writer.proofs.bins_of_band.Reads as reads
-use Rattle.writer.proofs.bins_of_band.Lts as lts
-use Rattle.writer.proofs.bins_of_magnitudes.Reads as bins-of-magnitudes-reads
-use Rattle.writer.proofs.bins_of_sign.Reads as bins-of-sign-reads
 
 bins-of-magnitudes-requires : tie.Need-bins-of-magnitudes-requires
 bins-of-magnitudes-requires c κs = search needs

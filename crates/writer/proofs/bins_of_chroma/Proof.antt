@@ -8,11 +8,6 @@ use Rattle.standard.specs.Bins.{typeBins, rest, restOfCr}
 use Rattle.writer.proofs.Lengths.{chromaBins, three-length}
 use Rattle.writer.proofs.bins_of_chroma.Statement.{statement}
 use Rattle.writer.proofs.bins_of_chroma.Tie as tie
-use Rattle.writer.proofs.bins_of_chroma.Reads as reads
-use Rattle.writer.proofs.bins_of_chroma.Lts as lts
-use Rattle.writer.proofs.bins_of_rest.Reads as bins-of-rest-reads
-use Rattle.writer.proofs.bins_of_rest_of_cr.Reads as bins-of-rest-of-cr-reads
-use Rattle.writer.proofs.bins_of_type.Reads as bins-of-type-reads
 
 bins-of-type-requires : tie.Need-bins-of-type-requires
 bins-of-type-requires c κs = search needs

@@ -1,17 +1,12 @@
 -- The counts of the two parts, with M of each component.
 use borrow.Author.Needs.{needs}
-use mathlib.Core.Path.{ap, ap₂, _∙_}
+use mathlib.Core.Path.{ap, ap₂}
 use Prim.Native.Nat.{ℕ}
 use native.Mathlib.Omega.{arith}
 use lib.ListN.{length}
 use Rattle.writer.proofs.Lengths.{lumaBins, chromaBins, full-parts}
 use Rattle.writer.proofs.bins_of_full.Statement.{statement}
 use Rattle.writer.proofs.bins_of_full.Tie as tie
-use Rattle.writer.proofs.bins_of_full.Reads as reads
-use Rattle.writer.proofs.bins_of_full.Lts as lts
-use Rattle.writer.proofs.bins_of_chroma.Reads as bins-of-chroma-reads
-use Rattle.writer.proofs.bins_of_luma.Reads as bins-of-luma-reads
-use Rattle.geometry.proofs.most_of.Reads as most-of-reads
 
 most-of-requires : tie.Need-most-of-requires
 most-of-requires c κs = search needs

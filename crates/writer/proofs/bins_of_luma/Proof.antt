@@ -8,10 +8,6 @@ use Rattle.standard.specs.Bins.{typeBins, rest}
 use Rattle.writer.proofs.Lengths.{lumaBins}
 use Rattle.writer.proofs.bins_of_luma.Statement.{statement}
 use Rattle.writer.proofs.bins_of_luma.Tie as tie
-use Rattle.writer.proofs.bins_of_luma.Reads as reads
-use Rattle.writer.proofs.bins_of_luma.Lts as lts
-use Rattle.writer.proofs.bins_of_rest.Reads as bins-of-rest-reads
-use Rattle.writer.proofs.bins_of_type.Reads as bins-of-type-reads
 
 bins-of-type-requires : tie.Need-bins-of-type-requires
 bins-of-type-requires c κs = search needs

@@ -9,9 +9,6 @@ use Rattle.sink.proofs.Bits.{truncated-length-part, truncated-length-full}
 use Rattle.standard.proofs.Signed.{backed}
 use Rattle.writer.proofs.bins_of_magnitude.Statement.{statement}
 use Rattle.writer.proofs.bins_of_magnitude.Tie as tie
-use Rattle.writer.proofs.bins_of_magnitude.Reads as reads
-use Rattle.writer.proofs.bins_of_magnitude.Lts as lts
-use Rattle.sink.proofs.magnitude.Reads as magnitude-reads
 
 magnitude-requires : tie.Need-magnitude-requires
 magnitude-requires c κs = search needs

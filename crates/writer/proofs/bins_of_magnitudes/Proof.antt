@@ -10,9 +10,6 @@ use Rattle.standard.proofs.Longest.{magnitudes-length}
 use Rattle.standard.proofs.Signed.{backed}
 use Rattle.writer.proofs.bins_of_magnitudes.Statement.{statement}
 use Rattle.writer.proofs.bins_of_magnitudes.Tie as tie
-use Rattle.writer.proofs.bins_of_magnitudes.Reads as reads
-use Rattle.writer.proofs.bins_of_magnitudes.Lts as lts
-use Rattle.writer.proofs.bins_of_magnitude.Reads as bins-of-magnitude-reads
 
 bins-of-magnitude-requires : tie.Need-bins-of-magnitude-requires
 bins-of-magnitude-requires c κs = search needs

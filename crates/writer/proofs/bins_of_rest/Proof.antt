@@ -10,10 +10,6 @@ use Rattle.sink.proofs.Signed.{bandRest}
 use Rattle.writer.proofs.Lengths.{rest-off, rest-edge}
 use Rattle.writer.proofs.bins_of_rest.Statement.{statement}
 use Rattle.writer.proofs.bins_of_rest.Tie as tie
-use Rattle.writer.proofs.bins_of_rest.Reads as reads
-use Rattle.writer.proofs.bins_of_rest.Lts as lts
-use Rattle.writer.proofs.bins_of_band.Reads as bins-of-band-reads
-use Rattle.writer.proofs.bins_of_magnitudes.Reads as bins-of-magnitudes-reads
 
 enum-told : tie.Need-enum-told
 enum-told c = search needs

@@ -10,10 +10,6 @@ use Rattle.sink.proofs.Signed.{bandRest}
 use Rattle.writer.proofs.Lengths.{restOfCr-off, restOfCr-band, restOfCr-edge}
 use Rattle.writer.proofs.bins_of_rest_of_cr.Statement.{statement}
 use Rattle.writer.proofs.bins_of_rest_of_cr.Tie as tie
-use Rattle.writer.proofs.bins_of_rest_of_cr.Reads as reads
-use Rattle.writer.proofs.bins_of_rest_of_cr.Lts as lts
-use Rattle.writer.proofs.bins_of_band.Reads as bins-of-band-reads
-use Rattle.writer.proofs.bins_of_magnitudes.Reads as bins-of-magnitudes-reads
 
 enum-told : tie.Need-enum-told
 enum-told c = search needs

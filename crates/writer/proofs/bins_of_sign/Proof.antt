@@ -8,9 +8,6 @@ use Rattle.standard.proofs.Signed.{backed}
 use Rattle.writer.proofs.Lengths.{sign-none, sign-one}
 use Rattle.writer.proofs.bins_of_sign.Statement.{statement}
 use Rattle.writer.proofs.bins_of_sign.Tie as tie
-use Rattle.writer.proofs.bins_of_sign.Reads as reads
-use Rattle.writer.proofs.bins_of_sign.Lts as lts
-use Rattle.sink.proofs.magnitude.Reads as magnitude-reads
 
 magnitude-requires : tie.Need-magnitude-requires
 magnitude-requires c κs = search needs

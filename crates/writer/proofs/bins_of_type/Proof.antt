@@ -8,8 +8,6 @@ use Rattle.standard.specs.Bins.{typeBins}
 use Rattle.writer.proofs.Lengths.{type-off, type-band, type-edge}
 use Rattle.writer.proofs.bins_of_type.Statement.{statement}
 use Rattle.writer.proofs.bins_of_type.Tie as tie
-use Rattle.writer.proofs.bins_of_type.Reads as reads
-use Rattle.writer.proofs.bins_of_type.Lts as lts
 
 enum-told : tie.Need-enum-told
 enum-told c = search needs

@@ -1,15 +1,14 @@
--- What tells whether two sets are equal decides it.
+-- There is nothing to copy, or what tells whether two sets are equal decides it.
 use borrow.Author.Needs.{needs}
-use mathlib.Core.Path.{sym, ap, _∙_}
-use Rattle.standard.specs.declared.Near.{Near}
-use Rattle.standard.proofs.Reader.{setOf}
-use Rattle.writer.specs.Forms.{copies}
-use Rattle.writer.proofs.Chosen.{copies-some}
+use mathlib.Core.Path.{_≡_, sym, ap, subst}
+use mathlib.Core.Option.{some}
+use Rattle.standard.specs.Refusals.{Tells}
+use Rattle.standard.proofs.Decisions.{differ}
+use Rattle.standard.proofs.Answers.{tell-same}
+use Rattle.writer.specs.declared.Beside.{Beside}
+use Rattle.writer.specs.Forms.{besideOf}
 use Rattle.writer.proofs.is_copy.Statement.{statement}
 use Rattle.writer.proofs.is_copy.Tie as tie
-use Rattle.writer.proofs.is_copy.Reads as reads
-use Rattle.writer.proofs.is_copy.Lts as lts
-use Rattle.sets.proofs.same_set.Reads as same-set-reads
 
 enum-told : tie.Need-enum-told
 enum-told c = search needs
@@ -21,16 +20,16 @@ same-set-requires : tie.Need-same-set-requires
 same-set-requires c κs = search needs
 
 returns : tie.Need-returns
-unfolding copies
 returns c =
     let q = c .before .before .args .q in
-    sym (ap (λ (n : Near). copies (setOf n) q) (c .enum-told .given .1))
+    subst (λ (n : Beside). ¬ (besideOf n ≡ some q)) (sym (c .enum-told .given .1)) (λ e. differ (cc))
 
 returns-2 : tie.Need-returns-2
 returns-2 c =
     let q = c .before .before .before .before .args .q in
     let g = c .before .before .near .given in
-    copies-some (g .0 .0) q (c .same-set .result) (c .same-set .ensures) ∙ sym (ap (λ (n : Near). copies (setOf n) q) (g .1))
+    let r = c .same-set .result in
+    subst (λ (n : Beside). Tells (besideOf n ≡ some q) r) (sym (g .1)) (tell-same r (λ e. ap some e) (λ e. cc) (c .same-set .ensures))
 
 pub is-copy-spec : {M : Type 1} → statement M
 is-copy-spec = tie.close (tie.spec enum-told enum-known-near same-set-requires returns returns-2)

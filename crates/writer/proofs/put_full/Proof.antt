@@ -9,11 +9,6 @@ use Rattle.sink.proofs.Packed.{puts-then, puts-as, room-as, room-first, room-re
 use Rattle.writer.proofs.Lengths.{lumaBins, chromaBins}
 use Rattle.writer.proofs.put_full.Statement.{statement}
 use Rattle.writer.proofs.put_full.Tie as tie
-use Rattle.writer.proofs.put_full.Reads as reads
-use Rattle.writer.proofs.put_full.Lts as lts
-use Rattle.sink.proofs.Put.chroma.Reads as chroma-reads
-use Rattle.sink.proofs.Put.luma.Reads as luma-reads
-use Rattle.geometry.proofs.most_of.Reads as most-of-reads
 
 most-of-requires : tie.Need-most-of-requires
 most-of-requires c κs = search needs

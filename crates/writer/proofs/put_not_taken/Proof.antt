@@ -3,16 +3,13 @@ use borrow.Author.Needs.{needs}
 use mathlib.Core.Path.{sym, ap}
 use native.Mathlib.Omega.{arith}
 use lib.ListN.{length}
-use Rattle.standard.specs.declared.Near.{Near}
 use Rattle.standard.specs.Bins.{fixedLength}
 use Rattle.standard.specs.Means.{notTaken}
-use Rattle.standard.proofs.Reader.{setOf}
 use Rattle.sink.proofs.Packed.{puts-none, puts-as, room-as}
+use Rattle.writer.specs.declared.Beside.{Beside}
+use Rattle.writer.specs.Forms.{besideOf}
 use Rattle.writer.proofs.put_not_taken.Statement.{statement}
 use Rattle.writer.proofs.put_not_taken.Tie as tie
-use Rattle.writer.proofs.put_not_taken.Reads as reads
-use Rattle.writer.proofs.put_not_taken.Lts as lts
-use Rattle.sink.proofs.Put.bits.Reads as bits-reads
 
 enum-told : tie.Need-enum-told
 enum-told c = search needs
@@ -22,11 +19,11 @@ enum-told-2 c = search needs
 
 bits-requires : tie.Need-bits-requires
 bits-requires c κs =
-    (room-as (sym (ap (λ (n : Near). length (notTaken (setOf n))) (c .before .enum-told2 .given .1))) (c .before .before .before .before .pre), omega arith)
+    (room-as (sym (ap (λ (n : Beside). length (notTaken (besideOf n))) (c .before .enum-told2 .given .1))) (c .before .before .before .before .pre), omega arith)
 
 returns : tie.Need-returns
 returns c =
-    puts-as (sym (ap (λ (n : Near). notTaken (setOf n)) (c .enum-told .given .1))) (puts-none _ _)
+    puts-as (sym (ap (λ (n : Beside). notTaken (besideOf n)) (c .enum-told .given .1))) (puts-none _ _)
 
 same-length : tie.Need-same-length
 same-length c = search needs
@@ -34,7 +31,7 @@ same-length c = search needs
 returns-2 : tie.Need-returns-2
 unfolding fixedLength
 returns-2 c =
-    puts-as (sym (ap (λ (n : Near). notTaken (setOf n)) (c .before .before .before .before .enum-told2 .given .1))) (c .before .before .bits .ensures)
+    puts-as (sym (ap (λ (n : Beside). notTaken (besideOf n)) (c .before .before .before .before .enum-told2 .given .1))) (c .before .before .bits .ensures)
 
 pub put-not-taken-spec : {M : Type 1} → statement M
 put-not-taken-spec =

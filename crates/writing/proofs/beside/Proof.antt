@@ -1,8 +1,8 @@
 -- No neighbour has no entry; of a neighbour's entry, what is found there.
 use mathlib.Core.Path.{_≡_, refl, sym, ap, subst, subst₂}
+use mathlib.Core.Option.{some}
 use borrow.Author.Needs.{needs}
 use denote.Ref.{now}
-use Rattle.standard.specs.declared.Near.the-variants as beside
 use Rattle.standard.specs.declared.Switches.{Switches}
 use Rattle.standard.specs.Sets.{switchesOf}
 use Rattle.geometry.specs.declared.Near.{Near}
@@ -11,10 +11,10 @@ use Rattle.lent.specs.Due.{InTable}
 use Rattle.sets.specs.declared.Found.{Found}
 use Rattle.sets.specs.Entries.{Finds}
 use Rattle.sets.proofs.Finding.{sound-of, found-stored}
-use mathlib.Core.Option.{some}
-use Rattle.writing.specs.declared.Side.{Side}
-use Rattle.writing.specs.declared.Side.the-variants as side
-use Rattle.writing.specs.Writing.{Beside}
+use Rattle.writer.specs.declared.Beside.the-variants.{Nothing, Set}
+use Rattle.writing.specs.declared.FoundBeside.{FoundBeside}
+use Rattle.writing.specs.declared.FoundBeside.the-variants.{Sound, Bad}
+use Rattle.writing.specs.Writing.{FindsBeside}
 use Rattle.writing.proofs.beside.Statement.{statement}
 use Rattle.writing.proofs.beside.Tie as tie
 
@@ -42,13 +42,13 @@ enum-known-q : tie.Need-enum-known-q
 enum-known-q c = search needs
 
 -- what is beside a CTU whose neighbour is n
-abbrev At : tie.Start → Near → Side → Type 0
-At s n r = Beside (s .args .state) (now (s .args .table)) (nearOf n) r
+abbrev At : tie.Start → Near → FoundBeside → Type 0
+At s n r = FindsBeside (s .args .state) (now (s .args .table)) (nearOf n) r
 
 returns : tie.Need-returns
 returns c =
     let s = c .before .before .before .before in
-    subst (λ (n : Near). At s n (side.Near beside.Nothing)) (sym (c .enum-told .given .1)) (refl, λ b. b)
+    subst (λ (n : Near). At s n (Sound Nothing)) (sym (c .enum-told .given .1)) (refl, λ b. b)
 
 abbrev s : tie.After-get-set → tie.Start
 s c = c .before .before .before .before .before .before
@@ -62,13 +62,13 @@ found c e =
 returns-2 : tie.Need-returns-2
 returns-2 c =
     let g = c .before .before in
-    subst (λ (n : Near). At (s g) n side.Bad) (sym (g .before .before .k .given .1)) (found g (c .enum-told2 .given .1))
+    subst (λ (n : Near). At (s g) n Bad) (sym (g .before .before .k .given .1)) (found g (c .enum-told2 .given .1))
 
 returns-3 : tie.Need-returns-3
 returns-3 c =
     let g = c .before .before .before in
     let holds = found g (c .before .q .given .1) in
-    subst (λ (n : Near). At (s g) n (side.Near (beside.Set (c .before .q .given .0 .0)))) (sym (g .before .before .k .given .1)) (ap some (sym (found-stored holds)), λ bad. bad (sound-of holds))
+    subst (λ (n : Near). At (s g) n (Sound (Set (c .before .q .given .0 .0)))) (sym (g .before .before .k .given .1)) (ap some (sym (found-stored holds)), λ bad. bad (sound-of holds))
 
 pub beside-spec : {M : Type 1} → statement M
 beside-spec =

@@ -5,11 +5,10 @@ use Prim.Native.Nat.{ℕ}
 use borrow.Author.Needs.{needs}
 use denote.Ref.{now}
 use Rattle.standard.specs.Picture.{mergeLeft, mergeUp}
-use Rattle.geometry.specs.Geometry.{nearOf}
 use Rattle.lent.specs.Due.{InTable}
 use Rattle.lent.proofs.Ready.{left-in-table, up-in-table}
-use Rattle.writing.specs.declared.Side.{Side}
-use Rattle.writing.specs.Writing.{Beside}
+use Rattle.writing.specs.declared.FoundBeside.{FoundBeside}
+use Rattle.writing.specs.Writing.{FindsBeside}
 use Rattle.writing.proofs.Setting.{left-bad, up-bad, beside}
 use Rattle.writing.proofs.bins_written.Statement.{statement}
 use Rattle.writing.proofs.bins_written.Tie as tie
@@ -19,17 +18,17 @@ use Rattle.writing.proofs.bins_written.Tie as tie
 abbrev s1 : tie.After-merge-left → tie.Start
 s1 c = c .before .before .before
 
-abbrev At : tie.Start → Option ℕ → Side → Type 0
-At s k r = Beside (s .args .state) (now (s .args .table)) k r
+abbrev At : tie.Start → Option ℕ → FoundBeside → Type 0
+At s k r = FindsBeside (s .args .state) (now (s .args .table)) k r
 
 abbrev s2 : tie.After-beside2 → tie.Start
 s2 c = s1 (c .before .before .before)
 
-left-side : (c : tie.After-beside2) {r : Side} → c .before .before .beside .result ≡ r → At (s2 c) (mergeLeft (s2 c .args .state)) r
-left-side c e = subst₂ (λ (k : Option ℕ) (r : Side). At (s2 c) k r) (c .before .before .before .merge-left .ensures) e (c .before .before .beside .ensures)
+left-side : (c : tie.After-beside2) {r : FoundBeside} → c .before .before .beside .result ≡ r → At (s2 c) (mergeLeft (s2 c .args .state)) r
+left-side c e = subst₂ (λ (k : Option ℕ) (r : FoundBeside). At (s2 c) k r) (c .before .before .before .merge-left .ensures) e (c .before .before .beside .ensures)
 
-up-side : (c : tie.After-beside2) {r : Side} → c .beside2 .result ≡ r → At (s2 c) (mergeUp (s2 c .args .state)) r
-up-side c e = subst₂ (λ (k : Option ℕ) (r : Side). At (s2 c) k r) (c .before .merge-up .ensures) e (c .beside2 .ensures)
+up-side : (c : tie.After-beside2) {r : FoundBeside} → c .beside2 .result ≡ r → At (s2 c) (mergeUp (s2 c .args .state)) r
+up-side c e = subst₂ (λ (k : Option ℕ) (r : FoundBeside). At (s2 c) k r) (c .before .merge-up .ensures) e (c .beside2 .ensures)
 
 -- ---- the code
 

@@ -6,9 +6,10 @@ use native.Mathlib.Omega.{arith}
 use denote.Ref.{now}
 use mir.Syntax.{w8}
 use Rattle.standard.proofs.Elements.{AllAtMost, magnitudesCode}
-use Rattle.standard.proofs.Components.{edgeSigned}
-use Rattle.bins.specs.Reads.{took, Reads}
-use Rattle.bins.specs.Views.{four, fourTaken}
+use Rattle.standard.proofs.Components.{edgeSigned, edgeSignedCode}
+use Rattle.bins.specs.Takes.{took}
+use Rattle.bins.specs.Views.{four, magnitudesTaken}
+use Rattle.bins.proofs.ByReader.{Reads, takes}
 use Rattle.bins.proofs.Readers.{edge-offsets-read}
 use Rattle.bins.proofs.Steps.{known, read-as, valued, value-holds, then-cut, mapped-took}
 use Rattle.standard.proofs.Signed.{backed}
@@ -25,12 +26,12 @@ enum-told : tie.Need-enum-told
 enum-told c = search needs
 
 returns : tie.Need-returns
-returns c = read-as (edge-offsets-read _) (then-cut _ (known (c .before .before .magnitudes .ensures) (ap fourTaken (c .enum-told .given .1))))
+returns c = takes (edgeSignedCode _) (read-as (edge-offsets-read _) (then-cut _ (known (magnitudesCode _) (c .before .before .magnitudes .ensures) (ap magnitudesTaken (c .enum-told .given .1)))))
 
 read : (c : tie.After-known-told)
     → let a = c .before .before .before .before .before .args in
     Reads (now (a .bytes)) (a .self) (magnitudesCode (a .m) .read) (took (four (c .before .f .given .0 .0)) (c .before .f .given .0 .1 .0))
-read c = known (c .before .before .before .magnitudes .ensures) (ap fourTaken (c .before .f .given .1))
+read c = known (magnitudesCode _) (c .before .before .before .magnitudes .ensures) (ap magnitudesTaken (c .before .f .given .1))
 
 small : (c : tie.After-known-told) → AllAtMost (c .before .before .before .before .before .args .m) (four (c .before .f .given .0 .0))
 small c = value-holds (magnitudesCode _) (read c)
@@ -59,7 +60,7 @@ returns-2 c =
     let e2 = backed w8 _ (c2 .offset2 .ok) ∙ c2 .offset2 .ensures in
     let e3 = backed w8 _ (c3 .offset3 .ok) ∙ c3 .offset3 .ensures in
     let e4 = backed w8 _ (c .offset4 .ok) ∙ c .offset4 .ensures in
-    valued (read-as (edge-offsets-read _) (mapped-took edgeSigned (read (c1 .before)))) (λ n. (e1 n, (e2 n, (e3 n, e4 n))))
+    takes (edgeSignedCode _) (valued (read-as (edge-offsets-read _) (mapped-took edgeSigned (read (c1 .before)))) (λ n. (e1 n, (e2 n, (e3 n, e4 n)))))
 
 pub edge-offsets-spec : {M : Type 1} → statement M
 edge-offsets-spec =

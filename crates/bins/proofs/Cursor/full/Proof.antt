@@ -4,9 +4,10 @@ use mathlib.Core.Path.{ap, ap₂, sym}
 use Prim.Native.Nat.{ℕ}
 use denote.Ref.{now}
 use Rattle.standard.specs.Sets.{most}
-use Rattle.standard.proofs.Ctu.{lumaCode, twoCode, ctuSet}
-use Rattle.bins.specs.Reads.{took, Reads}
+use Rattle.standard.proofs.Ctu.{lumaCode, twoCode, ctuSet, fullCode}
+use Rattle.bins.specs.Takes.{took}
 use Rattle.bins.specs.Views.{componentTaken, chromaTaken}
+use Rattle.bins.proofs.ByReader.{Reads, takes}
 use Rattle.bins.proofs.Readers.{full-read}
 use Rattle.bins.proofs.Steps.{known, read-as, next-within, then-took, then-cut, mapped-took}
 use Rattle.bins.proofs.Cursor.full.Statement.{statement}
@@ -28,8 +29,8 @@ returns : tie.Need-returns
 returns c =
     let s = c .before .before .before .before .before .args .s in
     let m = c .before .before .before .most-of .ensures .0 in
-    read-as (full-read s)
-    (then-cut _ (read-as (λ l. ap (λ (n : ℕ). lumaCode (s .luma) n .read l) (sym m)) (known (c .before .before .luma .ensures) (ap componentTaken (c .enum-told .given .1)))))
+    takes (fullCode _) (read-as (full-read s)
+    (then-cut _ (read-as (λ l. ap (λ (n : ℕ). lumaCode (s .luma) n .read l) (sym m)) (known (lumaCode _ _) (c .before .before .luma .ensures) (ap componentTaken (c .enum-told .given .1))))))
 
 luma-read : (c : tie.After-known-told)
     → let a = c .before .before .before .before .before .before .args in
@@ -37,7 +38,7 @@ luma-read : (c : tie.After-known-told)
 luma-read c =
     let s = c .before .before .before .before .before .before .args .s in
     read-as (λ l. ap (λ (n : ℕ). lumaCode (s .luma) n .read l) (sym (c .before .before .before .before .most-of .ensures .0)))
-    (known (c .before .before .before .luma .ensures) (ap componentTaken (c .before .luma2 .given .1)))
+    (known (lumaCode _ _) (c .before .before .before .luma .ensures) (ap componentTaken (c .before .luma2 .given .1)))
 
 most-of-requires-2 : tie.Need-most-of-requires-2
 most-of-requires-2 c κs = search needs
@@ -61,10 +62,10 @@ returns-2 c =
     let n = c .before .before .before in
     let k = n .before .before in
     let s = k .before .before .before .before .before .before .args .s in
-    read-as (full-read s)
+    takes (fullCode _) (read-as (full-read s)
     (then-took _ (luma-read k)
     (then-cut _ (read-as (λ l. sym (ap₂ (λ (m n : ℕ). twoCode (s .chroma) m n .read l) (n .before .most-of2 .ensures .0) (n .most-of3 .ensures .0)))
-    (known (c .before .before .chroma .ensures) (ap chromaTaken (c .enum-told2 .given .1))))))
+    (known (twoCode _ _ _) (c .before .before .chroma .ensures) (ap chromaTaken (c .enum-told2 .given .1)))))))
 
 returns-3 : tie.Need-returns-3
 returns-3 c =
@@ -72,10 +73,10 @@ returns-3 c =
     let k = n .before .before in
     let s = k .before .before .before .before .before .before .args .s in
     let luma = k .before .luma2 .given .0 .0 in
-    read-as (full-read s)
+    takes (fullCode _) (read-as (full-read s)
     (then-took _ (luma-read k)
     (mapped-took (λ t. ctuSet (luma, t)) (read-as (λ l. sym (ap₂ (λ (m n : ℕ). twoCode (s .chroma) m n .read l) (n .before .most-of2 .ensures .0) (n .most-of3 .ensures .0)))
-    (known (c .before .before .before .chroma .ensures) (ap chromaTaken (c .before .cb .given .1))))))
+    (known (twoCode _ _ _) (c .before .before .before .chroma .ensures) (ap chromaTaken (c .before .cb .given .1)))))))
 
 pub full-spec : {M : Type 1} → statement M
 full-spec =

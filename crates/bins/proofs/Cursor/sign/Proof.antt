@@ -4,7 +4,10 @@ use mathlib.Core.Path.{ap, _∙_}
 use mathlib.Core.Bool.{cond}
 use lib.IntN.{pos, negℤ}
 use mir.Syntax.{w8}
+use Rattle.standard.proofs.Codes.{bit}
+use Rattle.standard.proofs.Elements.{signCode}
 use Rattle.bins.specs.Views.{flagTaken}
+use Rattle.bins.proofs.ByReader.{takes}
 use Rattle.bins.proofs.Readers.{sign-none, sign-some}
 use Rattle.bins.proofs.Steps.{made, read-as, known, valued, then-cut, mapped-took}
 use Rattle.standard.proofs.Signed.{backed}
@@ -12,7 +15,7 @@ use Rattle.bins.proofs.Cursor.sign.Statement.{statement}
 use Rattle.bins.proofs.Cursor.sign.Tie as tie
 
 returns : tie.Need-returns
-returns c = made _ (c .before .before .pre .0) (λ l. rw (c .if1 .taken) (sign-none l))
+returns c = takes (signCode _) (made _ (c .before .before .pre .0) (λ l. rw (c .if1 .taken) (sign-none l)))
 
 flag-requires : tie.Need-flag-requires
 flag-requires c κs = search needs
@@ -26,7 +29,7 @@ enum-told c = search needs
 returns-2 : tie.Need-returns-2
 returns-2 c =
     let other = c .before .before .before in
-    read-as (λ l. sign-some _ l (other .if1 .left)) (then-cut _ (known (c .before .before .flag .ensures) (ap flagTaken (c .enum-told .given .1))))
+    takes (signCode _) (read-as (λ l. sign-some _ l (other .if1 .left)) (then-cut _ (known bit (c .before .before .flag .ensures) (ap flagTaken (c .enum-told .given .1)))))
 
 offset-requires : tie.Need-offset-requires
 offset-requires c κs = search needs
@@ -36,9 +39,9 @@ returns-3 c =
     let k = c .before in
     let other = k .before .before .before .before in
     let v = other .before .before .args .v in
-    read-as (λ l. sign-some _ l (other .if1 .left))
-    (valued (mapped-took (λ b. cond b (negℤ (pos v)) (pos v)) (known (k .before .before .before .flag .ensures) (ap flagTaken (k .before .negative .given .1))))
-    (backed w8 _ (c .offset .ok) ∙ c .offset .ensures))
+    takes (signCode _) (read-as (λ l. sign-some _ l (other .if1 .left))
+    (valued (mapped-took (λ b. cond b (negℤ (pos v)) (pos v)) (known bit (k .before .before .before .flag .ensures) (ap flagTaken (k .before .negative .given .1))))
+    (backed w8 _ (c .offset .ok) ∙ c .offset .ensures)))
 
 pub sign-spec : {M : Type 1} → statement M
 sign-spec =

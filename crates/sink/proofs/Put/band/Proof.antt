@@ -10,11 +10,6 @@ use Rattle.sink.proofs.Packed.{puts-then, puts-as, room-as, room-first,
 use Rattle.standard.proofs.Signed.{four-back}
 use Rattle.sink.proofs.Put.band.Statement.{statement}
 use Rattle.sink.proofs.Put.band.Tie as tie
-use Rattle.sink.proofs.Put.band.Reads as reads
-use Rattle.sink.proofs.Put.band.Lts as lts
-use Rattle.sink.proofs.Put.bits.Reads as bits-reads
-use Rattle.sink.proofs.Put.magnitudes.Reads as magnitudes-reads
-use Rattle.sink.proofs.Put.signs.Reads as signs-reads
 
 magnitudes-requires : tie.Need-magnitudes-requires
 unfolding rest

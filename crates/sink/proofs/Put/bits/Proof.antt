@@ -7,10 +7,6 @@ use Rattle.sink.specs.Puts.{Puts}
 use Rattle.sink.proofs.Loop.{none, one-part, all, room-part}
 use Rattle.sink.proofs.Put.bits.Statement.{statement}
 use Rattle.sink.proofs.Put.bits.Tie as tie
-use Rattle.sink.proofs.Put.bits.Reads as reads
-use Rattle.sink.proofs.Put.bits.Lts as lts
-use Rattle.sink.proofs.Put.part.Reads as part-reads
-use Rattle.sink.proofs.least.Reads as least-reads
 
 abbrev Inv-loop : tie.InvT-loop
 Inv-loop out₀ width value c₀ left₀ out c left =
@@ -28,8 +24,8 @@ cast-room c = omega arith
 sub-room : tie.Need-sub-room Inv-loop μ-loop
 sub-room c = omega arith
 
-least-requires : tie.Need-least-requires Inv-loop μ-loop
-least-requires c κs = search needs
+fewer-requires : tie.Need-fewer-requires Inv-loop μ-loop
+fewer-requires c κs = search needs
 
 sub-left : tie.Need-sub-left Inv-loop μ-loop
 sub-left c = omega arith
@@ -41,7 +37,7 @@ part-requires : tie.Need-part-requires Inv-loop μ-loop
 part-requires c κs =
     let l = c .before .before .before .before .loop in
     let s = c .before .before .before .before .before .before in
-    (room-part (s .args .width) (l .left) (c .before .least .result) (s .args .value / 2 ^ l .left) (omega arith) (l .inv .0) (s .pre .0) (l .inv .1), (omega arith, omega arith))
+    (room-part (s .args .width) (l .left) (c .before .fewer .result) (s .args .value / 2 ^ l .left) (omega arith) (l .inv .0) (s .pre .0) (l .inv .1), (omega arith, omega arith))
 
 loop-less : tie.Need-loop-less Inv-loop μ-loop
 loop-less c = omega arith
@@ -50,7 +46,7 @@ loop-again : tie.Need-loop-again Inv-loop μ-loop
 loop-again c =
     let l = c .before .before .before .before .before .before .before .loop in
     let a = c .before .before .before .before .before .before .before .before .before .args in
-    let k = c .before .before .before .before .least .result in
+    let k = c .before .before .before .before .fewer .result in
     (omega arith, one-part (a .width) (l .left) k (a .value) (omega arith) (l .inv .0) (l .inv .1) (c .before .before .part .ensures))
 
 same-length : tie.Need-same-length Inv-loop μ-loop
@@ -70,7 +66,7 @@ bits-spec =
     loop-holds
     cast-room
     sub-room
-    least-requires
+    fewer-requires
     sub-left
     shr-part
     part-requires

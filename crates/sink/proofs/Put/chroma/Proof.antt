@@ -8,11 +8,6 @@ use Rattle.standard.specs.Bins.{typeBins, rest, restOfCr, when}
 use Rattle.sink.proofs.Packed.{puts-none, puts-then, puts-as, room-as, room-first, room-rest}
 use Rattle.sink.proofs.Put.chroma.Statement.{statement}
 use Rattle.sink.proofs.Put.chroma.Tie as tie
-use Rattle.sink.proofs.Put.chroma.Reads as reads
-use Rattle.sink.proofs.Put.chroma.Lts as lts
-use Rattle.sink.proofs.Put.kind.Reads as kind-reads
-use Rattle.sink.proofs.Put.rest.Reads as rest-reads
-use Rattle.sink.proofs.Put.rest_of_cr.Reads as rest-of-cr-reads
 
 kind-requires : tie.Need-kind-requires
 kind-requires c κs =

@@ -8,10 +8,6 @@ use Rattle.standard.specs.Bins.{truncated}
 use Rattle.sink.proofs.Packed.{puts-as, room-as}
 use Rattle.sink.proofs.Put.kind.Statement.{statement}
 use Rattle.sink.proofs.Put.kind.Tie as tie
-use Rattle.sink.proofs.Put.kind.Reads as reads
-use Rattle.sink.proofs.Put.kind.Lts as lts
-use Rattle.sink.proofs.Put.truncated.Reads as truncated-reads
-use Rattle.sink.proofs.type_idx.Reads as type-idx-reads
 
 type-idx-requires : tie.Need-type-idx-requires
 type-idx-requires c κs = search needs

@@ -8,10 +8,6 @@ use Rattle.standard.specs.Bins.{typeBins, rest, when}
 use Rattle.sink.proofs.Packed.{puts-none, puts-then, puts-as, room-as, room-first, room-rest}
 use Rattle.sink.proofs.Put.luma.Statement.{statement}
 use Rattle.sink.proofs.Put.luma.Tie as tie
-use Rattle.sink.proofs.Put.luma.Reads as reads
-use Rattle.sink.proofs.Put.luma.Lts as lts
-use Rattle.sink.proofs.Put.kind.Reads as kind-reads
-use Rattle.sink.proofs.Put.rest.Reads as rest-reads
 
 kind-requires : tie.Need-kind-requires
 kind-requires c κs =

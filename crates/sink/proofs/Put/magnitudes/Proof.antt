@@ -10,10 +10,6 @@ use Rattle.sink.proofs.Packed.{puts-then, puts-as, room-as, room-first,
 use Rattle.standard.proofs.Signed.{backed}
 use Rattle.sink.proofs.Put.magnitudes.Statement.{statement}
 use Rattle.sink.proofs.Put.magnitudes.Tie as tie
-use Rattle.sink.proofs.Put.magnitudes.Reads as reads
-use Rattle.sink.proofs.Put.magnitudes.Lts as lts
-use Rattle.sink.proofs.Put.truncated.Reads as truncated-reads
-use Rattle.sink.proofs.magnitude.Reads as magnitude-reads
 
 magnitude-requires : tie.Need-magnitude-requires
 magnitude-requires c κs = search needs

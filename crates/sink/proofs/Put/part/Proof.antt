@@ -8,8 +8,6 @@ use denote.Ref.{now}
 use Rattle.sink.proofs.Packed.{part-puts, part-value, part-value-lt}
 use Rattle.sink.proofs.Put.part.Statement.{statement}
 use Rattle.sink.proofs.Put.part.Tie as tie
-use Rattle.sink.proofs.Put.part.Reads as reads
-use Rattle.sink.proofs.Put.part.Lts as lts
 
 cast-room : tie.Need-cast-room
 cast-room c = search needs

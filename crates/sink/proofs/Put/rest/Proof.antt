@@ -11,11 +11,6 @@ use Rattle.standard.proofs.Signed.{four-back}
 use Rattle.sink.proofs.Signed.{bandRest}
 use Rattle.sink.proofs.Put.rest.Statement.{statement}
 use Rattle.sink.proofs.Put.rest.Tie as tie
-use Rattle.sink.proofs.Put.rest.Reads as reads
-use Rattle.sink.proofs.Put.rest.Lts as lts
-use Rattle.sink.proofs.Put.band.Reads as band-reads
-use Rattle.sink.proofs.Put.bits.Reads as bits-reads
-use Rattle.sink.proofs.Put.magnitudes.Reads as magnitudes-reads
 
 enum-told : tie.Need-enum-told
 enum-told c = search needs

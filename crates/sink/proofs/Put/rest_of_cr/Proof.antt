@@ -9,10 +9,6 @@ use Rattle.standard.proofs.Signed.{four-back}
 use Rattle.sink.proofs.Signed.{bandRest}
 use Rattle.sink.proofs.Put.rest_of_cr.Statement.{statement}
 use Rattle.sink.proofs.Put.rest_of_cr.Tie as tie
-use Rattle.sink.proofs.Put.rest_of_cr.Reads as reads
-use Rattle.sink.proofs.Put.rest_of_cr.Lts as lts
-use Rattle.sink.proofs.Put.band.Reads as band-reads
-use Rattle.sink.proofs.Put.magnitudes.Reads as magnitudes-reads
 
 enum-told : tie.Need-enum-told
 enum-told c = search needs

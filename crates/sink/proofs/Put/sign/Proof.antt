@@ -9,10 +9,6 @@ use Rattle.sink.proofs.Packed.{puts-none, puts-as, room-as}
 use Rattle.sink.proofs.Signed.{coded-back, none-below, sign-below, sign-above}
 use Rattle.sink.proofs.Put.sign.Statement.{statement}
 use Rattle.sink.proofs.Put.sign.Tie as tie
-use Rattle.sink.proofs.Put.sign.Reads as reads
-use Rattle.sink.proofs.Put.sign.Lts as lts
-use Rattle.sink.proofs.Put.bits.Reads as bits-reads
-use Rattle.sink.proofs.code.Reads as code-reads
 
 code-requires : tie.Need-code-requires
 code-requires c κs = search needs

@@ -9,9 +9,6 @@ use Rattle.sink.proofs.Packed.{puts-then, puts-as, room-as, room-first,
 use Rattle.standard.proofs.Signed.{backed}
 use Rattle.sink.proofs.Put.signs.Statement.{statement}
 use Rattle.sink.proofs.Put.signs.Tie as tie
-use Rattle.sink.proofs.Put.signs.Reads as reads
-use Rattle.sink.proofs.Put.signs.Lts as lts
-use Rattle.sink.proofs.Put.sign.Reads as sign-reads
 
 sign-requires : tie.Need-sign-requires
 unfolding signs

@@ -4,9 +4,6 @@ use native.Mathlib.Omega.{arith}
 use Rattle.sink.proofs.Truncated.{two-le, one-le, room-zero, room-ones, puts-zero, puts-ones}
 use Rattle.sink.proofs.Put.truncated.Statement.{statement}
 use Rattle.sink.proofs.Put.truncated.Tie as tie
-use Rattle.sink.proofs.Put.truncated.Reads as reads
-use Rattle.sink.proofs.Put.truncated.Lts as lts
-use Rattle.sink.proofs.Put.bits.Reads as bits-reads
 
 add-bits : tie.Need-add-bits
 add-bits c = search needs

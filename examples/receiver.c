@@ -5,6 +5,8 @@
  * The sets arrive as bins CTU by CTU and the deblocked blocks in a shuffled order. Each block is filtered as soon as
  * the stage accepts it, and finished rows go to the reference store as they grow. Given a FILE, the receiver also
  * writes the picture there, so that another program can judge it.
+ *
+ * It is C99 and C++98 at once, which is why memory is cast and fields are set one by one.
  */
 #include <inttypes.h>
 #include <stdio.h>
@@ -29,6 +31,13 @@ static void must(const char *call, uint32_t answer)
         fail(call, sg_reason(answer));
 }
 
+/* A header of another version would lend what the archive does not expect. */
+static void check_version(void)
+{
+    if (sg_version() / 65536 != SG_VERSION_MAJOR || sg_version() < SG_VERSION)
+        fail("libsteamgusset.a", "it is another version's than steamgusset.h");
+}
+
 /* An absent plane has length 0 and needs no memory. */
 static void *room(size_t count, size_t size)
 {
@@ -40,11 +49,21 @@ static void *room(size_t count, size_t size)
     return memory;
 }
 
+static uint16_t *room_for_samples(size_t count)
+{
+    return (uint16_t *)room(count, sizeof(uint16_t));
+}
+
+static uint8_t *room_for_bytes(size_t count)
+{
+    return (uint8_t *)room(count, 1);
+}
+
 /* ---- a picture: the state and all that is lent with it */
 
 struct picture {
     sg_state state;
-    struct sg_sizes sizes;
+    sg_picture_sizes sizes;
     uint16_t *deblocked[COMPONENTS];
     uint16_t *filtered[COMPONENTS];
     uint8_t *marks;
@@ -52,19 +71,19 @@ struct picture {
     uint8_t set[SG_SET_BYTES]; /* the last one read */
 };
 
-/* Nothing has to be cleared: open sets the marks, and the stage uses no set and no sample that was not stored since. */
-static struct picture open_picture(sg_state description)
+/* No buffer has to be cleared: open sets the marks, and the stage uses no set or sample that was not stored since. */
+static void open_picture(struct picture *p, const sg_state *description)
 {
-    struct picture p = {.state = description};
-    must("sizes", sg_sizes(&p.state, &p.sizes));
+    memset(p, 0, sizeof *p);
+    p->state = *description;
+    must("sizes", sg_sizes(&p->state, &p->sizes));
     for (int i = 0; i < COMPONENTS; i++) {
-        p.deblocked[i] = room(p.sizes.samples[i], sizeof(uint16_t));
-        p.filtered[i] = room(p.sizes.samples[i], sizeof(uint16_t));
+        p->deblocked[i] = room_for_samples(p->sizes.samples[i]);
+        p->filtered[i] = room_for_samples(p->sizes.samples[i]);
     }
-    p.marks = room(p.sizes.marks, 1);
-    p.table = room(p.sizes.table, 1);
-    must("open", sg_open(&p.state, p.marks, p.sizes.marks));
-    return p;
+    p->marks = room_for_bytes(p->sizes.marks);
+    p->table = room_for_bytes(p->sizes.table);
+    must("open", sg_open(&p->state, p->marks, p->sizes.marks));
 }
 
 static void close_picture(struct picture *p)
@@ -121,7 +140,7 @@ struct stream {
 
 #define OFF 0, 0, 0, 0, 0, 0
 #define BAND(position, a, b, c, d) 1, position, 128 + (a), 128 + (b), 128 + (c), 128 + (d)
-#define EDGE(class, a, b, c, d) 2, class, 128 + (a), 128 + (b), 128 + (c), 128 + (d)
+#define EDGE(direction, a, b, c, d) 2, direction, 128 + (a), 128 + (b), 128 + (c), 128 + (d)
 
 /* Every type and class, bands that wrap, the largest magnitude; two sets that a merge can copy, left and up. */
 static const uint8_t CHOSEN[SETS][SG_SET_BYTES] = {
@@ -136,9 +155,10 @@ static const uint8_t CHOSEN[SETS][SG_SET_BYTES] = {
 };
 
 /* The encoder's side has a state and a table of its own: the reader makes its table from the bins alone. */
-static void encode(struct stream *s, sg_state description)
+static void encode(struct stream *s, const sg_state *description)
 {
-    struct picture p = open_picture(description);
+    struct picture p;
+    open_picture(&p, description);
     if (p.sizes.ctus != SETS)
         fail("encode", "there is not one set for each CTU");
     for (int k = 0; k < SETS; k++)
@@ -158,7 +178,7 @@ static uint32_t drawn(uint32_t *seed, uint32_t below)
 /* A gradient from black to white with noise on it. */
 static uint16_t *gradient(size_t width, size_t height, uint32_t depth, uint32_t *seed)
 {
-    uint16_t *plane = room(width * height, sizeof(uint16_t));
+    uint16_t *plane = room_for_samples(width * height);
     const uint32_t top = (UINT32_C(1) << depth) - 1, noise = top / 16;
     for (size_t n = 0; n < width * height; n++) {
         uint32_t slope = (uint32_t)((n % width + n / width) * (top - noise) / (width + height - 2));
@@ -167,9 +187,9 @@ static uint16_t *gradient(size_t width, size_t height, uint32_t depth, uint32_t 
     return plane;
 }
 
-static void make(struct stream *s, const sg_state *description, const struct sg_sizes *sizes, uint32_t *seed)
+static void make(struct stream *s, const sg_state *description, const sg_picture_sizes *sizes, uint32_t *seed)
 {
-    encode(s, *description);
+    encode(s, description);
     for (int i = 0; i < COMPONENTS; i++)
         s->planes[i] = gradient(sizes->width[i], sizes->height[i], description->depth, seed);
 }
@@ -177,33 +197,108 @@ static void make(struct stream *s, const sg_state *description, const struct sg_
 /* ---- the receiver */
 
 struct ctb {
-    uint32_t component, ctb;
+    uint32_t component, number;
 };
 
 struct receiver {
     struct picture picture;
-    struct ctb *waiting; /* delivered, not filtered yet */
-    size_t waits;
+    size_t *filtered_in_row;         /* CTBs, for each CTB row of each component */
     uint16_t *reference[COMPONENTS]; /* the reference store */
     sg_rows stored[COMPONENTS];      /* how much of it is there */
-    size_t bins, filtered, not_ready;
+    size_t bins, filtered, not_ready, asked_for_rows;
 };
 
-static struct receiver open_receiver(sg_state description)
+static void open_receiver(struct receiver *r, const sg_state *description)
 {
-    struct receiver r = {.picture = open_picture(description)};
+    memset(r, 0, sizeof *r);
+    open_picture(&r->picture, description);
     for (int i = 0; i < COMPONENTS; i++)
-        r.reference[i] = room(r.picture.sizes.samples[i], sizeof(uint16_t));
-    r.waiting = room(r.picture.sizes.marks, sizeof *r.waiting);
-    return r;
+        r->reference[i] = room_for_samples(r->picture.sizes.samples[i]);
+    const size_t rows = COMPONENTS * r->picture.sizes.rows;
+    r->filtered_in_row = (size_t *)room(rows, sizeof(size_t));
+    memset(r->filtered_in_row, 0, rows * sizeof(size_t));
 }
 
 static void close_receiver(struct receiver *r)
 {
     for (int i = 0; i < COMPONENTS; i++)
         free(r->reference[i]);
-    free(r->waiting);
+    free(r->filtered_in_row);
     close_picture(&r->picture);
+}
+
+/* Copies to the reference store the rows that have been finished since the last look. */
+static void store_finished(struct receiver *r, uint32_t component)
+{
+    sg_rows *stored = &r->stored[component];
+    sg_rows finished;
+    must("finished rows", finished_rows(&r->picture, component, &finished));
+    r->asked_for_rows++;
+    if (finished.rows == stored->rows)
+        return;
+    memcpy(r->reference[component] + stored->samples, r->picture.filtered[component] + stored->samples,
+           (finished.samples - stored->samples) * sizeof(uint16_t));
+    *stored = finished;
+}
+
+/* Rows can have been finished only if this block was the last of its CTB row. Asking at every block would give the same
+ * picture, but each time the stage looks at every mark of the component. */
+static void count_filtered(struct receiver *r, struct ctb c)
+{
+    const sg_picture_sizes *sizes = &r->picture.sizes;
+    const size_t row = c.component * sizes->rows + c.number / sizes->columns;
+    r->filtered++;
+    if (++r->filtered_in_row[row] == sizes->columns)
+        store_finished(r, c.component);
+}
+
+static void filter_if_ready(struct receiver *r, struct ctb c)
+{
+    const uint32_t answer = filter(&r->picture, c.component, c.number);
+    if (answer == SG_NOT_READY) {
+        r->not_ready++;
+        return;
+    }
+    must("filter", answer);
+    count_filtered(r, c);
+}
+
+/* The blocks of a component in one CTB row, of the columns from left up to, and without, right. */
+static void filter_in_row(struct receiver *r, uint32_t component, size_t row, size_t left, size_t right)
+{
+    for (size_t column = left; column < right; column++) {
+        struct ctb c;
+        c.component = component;
+        c.number = (uint32_t)(row * r->picture.sizes.columns + column);
+        filter_if_ready(r, c);
+    }
+}
+
+static size_t smaller(size_t a, size_t b)
+{
+    return a < b ? a : b;
+}
+
+/* After a delivery: only that block and those around it can have become ready. Each waited for it, so that none of them
+ * was filtered before. */
+static void filter_around(struct receiver *r, struct ctb c)
+{
+    const sg_picture_sizes *sizes = &r->picture.sizes;
+    const size_t column = c.number % sizes->columns, row = c.number / sizes->columns;
+    const size_t left = column > 0 ? column - 1 : 0, right = smaller(column + 2, sizes->columns);
+    const size_t top = row > 0 ? row - 1 : 0, bottom = smaller(row + 2, sizes->rows);
+    for (size_t y = top; y < bottom; y++)
+        filter_in_row(r, c.component, y, left, right);
+}
+
+/* After a read: only the blocks of that CTU can have become ready. */
+static void filter_unit(struct receiver *r, uint32_t ctu)
+{
+    struct ctb c;
+    c.number = ctu;
+    for (c.component = 0; c.component < COMPONENTS; c.component++)
+        if (r->picture.sizes.samples[c.component] > 0)
+            filter_if_ready(r, c);
 }
 
 /* Here damaged bins end the receiver. One that conceals would store a set of its own choice with sg_write. */
@@ -213,10 +308,11 @@ static void take_set(struct receiver *r, const struct stream *s)
     const size_t count = s->counts[ctu];
     must("read", read_set(&r->picture, s->bins[ctu], (count + 7) / 8, count));
     r->bins += count;
+    filter_unit(r, ctu);
 }
 
 /* A block row by row out of a plane: a decoder has it like this once it is deblocked. */
-static size_t cut_out(const uint16_t *plane, size_t width, const struct sg_block *b, uint16_t *samples)
+static size_t cut_out(const uint16_t *plane, size_t width, const sg_block_place *b, uint16_t *samples)
 {
     const size_t across = b->x1 - b->x0;
     for (size_t y = b->y0; y < b->y1; y++, samples += across)
@@ -227,43 +323,11 @@ static size_t cut_out(const uint16_t *plane, size_t width, const struct sg_block
 static void take_block(struct receiver *r, const struct stream *s, struct ctb c)
 {
     uint16_t samples[64 * 64]; /* the largest CTB */
-    struct sg_block block;
-    must("block", sg_block(&r->picture.state, c.component, c.ctb, &block));
+    sg_block_place block;
+    must("block", sg_block(&r->picture.state, c.component, c.number, &block));
     size_t length = cut_out(s->planes[c.component], r->picture.sizes.width[c.component], &block, samples);
-    must("deliver", deliver(&r->picture, c.component, c.ctb, samples, length));
-    r->waiting[r->waits++] = c;
-}
-
-/* Filters every waiting block that is ready and keeps the others waiting. A busier receiver would ask only for the
- * block just delivered and its neighbours, or for the blocks of the CTU just read: no other can have become ready. */
-static void filter_ready(struct receiver *r)
-{
-    size_t kept = 0;
-    for (size_t n = 0; n < r->waits; n++) {
-        const struct ctb c = r->waiting[n];
-        const uint32_t answer = filter(&r->picture, c.component, c.ctb);
-        if (answer == SG_NOT_READY) {
-            r->waiting[kept++] = c;
-            r->not_ready++;
-        } else {
-            must("filter", answer);
-            r->filtered++;
-        }
-    }
-    r->waits = kept;
-}
-
-/* Copies to the reference store the rows that have been finished since the last look. */
-static void store_finished(struct receiver *r, uint32_t component)
-{
-    sg_rows *stored = &r->stored[component];
-    sg_rows finished;
-    must("finished rows", finished_rows(&r->picture, component, &finished));
-    if (finished.rows == stored->rows)
-        return;
-    memcpy(r->reference[component] + stored->samples, r->picture.filtered[component] + stored->samples,
-           (finished.samples - stored->samples) * sizeof(uint16_t));
-    *stored = finished;
+    must("deliver", deliver(&r->picture, c.component, c.number, samples, length));
+    filter_around(r, c);
 }
 
 static int is_whole(const struct receiver *r)
@@ -275,14 +339,15 @@ static int is_whole(const struct receiver *r)
 }
 
 /* All CTBs of all components present, in a drawn order. */
-static struct ctb *shuffled(const struct sg_sizes *sizes, uint32_t *seed)
+static struct ctb *shuffled(const sg_picture_sizes *sizes, uint32_t *seed)
 {
-    struct ctb *order = room(sizes->marks, sizeof *order);
+    struct ctb *order = (struct ctb *)room(sizes->marks, sizeof *order);
     for (size_t n = 0; n < sizes->marks; n++) {
         const size_t at = drawn(seed, (uint32_t)n + 1);
         if (at < n)
             order[n] = order[at];
-        order[at] = (struct ctb){(uint32_t)(n / sizes->ctus), (uint32_t)(n % sizes->ctus)};
+        order[at].component = (uint32_t)(n / sizes->ctus);
+        order[at].number = (uint32_t)(n % sizes->ctus);
     }
     return order;
 }
@@ -290,15 +355,11 @@ static struct ctb *shuffled(const struct sg_sizes *sizes, uint32_t *seed)
 /* A set arrives with every second block, so that now a set is missing and now a neighbour. */
 static void receive(struct receiver *r, const struct stream *s, const struct ctb *order)
 {
-    const struct sg_sizes *sizes = &r->picture.sizes;
+    const sg_picture_sizes *sizes = &r->picture.sizes;
     for (size_t n = 0; n < sizes->marks; n++) {
         if (n % 2 == 0 && r->picture.state.next < sizes->ctus)
             take_set(r, s);
         take_block(r, s, order[n]);
-        filter_ready(r);
-        for (uint32_t i = 0; i < COMPONENTS; i++)
-            if (sizes->samples[i] > 0)
-                store_finished(r, i);
     }
     if (!is_whole(r))
         fail("receive", "the stream ended before the picture did");
@@ -339,6 +400,12 @@ static size_t changed(const struct receiver *r, const struct stream *s)
     return count;
 }
 
+/* C++98 has no %zu. */
+static void print_count(const char *what, size_t count)
+{
+    printf("%s: %lu\n", what, (unsigned long)count);
+}
+
 static void print_figures(const struct receiver *r, const struct stream *s)
 {
     const sg_state *d = &r->picture.state;
@@ -348,10 +415,11 @@ static void print_figures(const struct receiver *r, const struct stream *s)
     printf("picture: %" PRIu32 "x%" PRIu32 ", CTB size %" PRIu32 ", depth %" PRIu32 "\n", d->width, d->height, d->ctb,
            d->depth);
     printf("sets: %" PRIu32 "\n", d->next);
-    printf("bins: %zu\n", r->bins);
-    printf("blocks: %zu\n", r->filtered);
-    printf("not ready: %zu\n", r->not_ready);
-    printf("changed samples: %zu\n", changed(r, s));
+    print_count("bins", r->bins);
+    print_count("blocks", r->filtered);
+    print_count("not ready", r->not_ready);
+    print_count("asked for finished rows", r->asked_for_rows);
+    print_count("changed samples", changed(r, s));
     printf("checksum: %016" PRIx64 "\n", sum);
 }
 
@@ -379,12 +447,26 @@ static void print_refusal(const struct picture *p, uint64_t before, uint32_t ans
     printf("refused %" PRIu32 ": %s; nothing changed\n", answer, sg_reason(answer));
 }
 
-/* On a picture of one monochrome CTB, whose chroma planes are NULL with length 0. */
+/* One monochrome CTB: the chroma planes are NULL with length 0, format and chroma's switch are 0. */
+static sg_state described_small(void)
+{
+    sg_state d;
+    memset(&d, 0, sizeof d);
+    d.width = 8;
+    d.height = 8;
+    d.ctb = 16;
+    d.depth = 8;
+    d.luma = 1;
+    return d;
+}
+
 static void show_refusals(void)
 {
     const uint8_t bins[2] = {0xE3, 0x40};
     const uint16_t samples[8 * 8] = {0};
-    struct picture p = open_picture((sg_state){.width = 8, .height = 8, .ctb = 16, .depth = 8, .luma = 1});
+    const sg_state description = described_small();
+    struct picture p;
+    open_picture(&p, &description);
     must("deliver", deliver(&p, 0, 0, samples, 8 * 8));
     /* What the stage has not written yet is set, so that two looks can be compared. */
     memset(p.filtered[0], 0, p.sizes.samples[0] * sizeof(uint16_t));
@@ -419,24 +501,43 @@ static void save(const char *path, const struct receiver *r, const struct stream
         fail(path, "it cannot be written");
 }
 
+/* ---- all of it */
+
+/* Neither side is a multiple of 64, so the last column and the last row of CTBs are cut short. */
+static sg_state described(void)
+{
+    sg_state d;
+    memset(&d, 0, sizeof d);
+    d.width = 200;
+    d.height = 120;
+    d.ctb = 64;
+    d.format = 1;
+    d.depth = 10;
+    d.luma = 1;
+    d.chroma = 1;
+    return d;
+}
+
 int main(int argc, char **argv)
 {
-    /* Neither side is a multiple of 64, so the last column and the last row of CTBs are cut short. */
-    const sg_state description = {
-        .width = 200, .height = 120, .ctb = 64, .format = 1, .depth = 10, .luma = 1, .chroma = 1};
+    const sg_state description = described();
     uint32_t seed = 20130413;
     struct stream stream;
+    struct receiver receiver;
 
     if (argc > 2) {
         fprintf(stderr, "usage: receiver [FILE]\n");
         return 2;
     }
-    struct receiver receiver = open_receiver(description);
+    check_version();
+    open_receiver(&receiver, &description);
     make(&stream, &description, &receiver.picture.sizes, &seed);
     struct ctb *order = shuffled(&receiver.picture.sizes, &seed);
     receive(&receiver, &stream, order);
     print_figures(&receiver, &stream);
     show_refusals();
+    if (fflush(stdout) != 0)
+        fail("standard output", "it cannot be written");
     if (argc == 2)
         save(argv[1], &receiver, &stream);
 

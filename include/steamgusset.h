@@ -4,15 +4,40 @@
  * offset parameters from decoded bins, takes deblocked coding tree blocks (CTBs) as they finish, in any order, and
  * filters them into a second set of planes. Deblocking, arithmetic decoding and choosing parameters lie elsewhere.
  *
- *     cc receiver.c libsteamgusset.a
+ * Which pictures: the stage gives the standard's samples for every picture that keeps the rules of its description and
+ * has none of what is not covered yet:
  *
- * Nothing else is linked but the C library. examples/receiver.c is a whole receiver; docs/CALLS.md lists the calls.
+ * - several slices; one slice may have any number of segments
+ * - tiles
+ * - lossless units, and PCM units whose loop filtering is disabled: they keep their samples
+ * - 4:2:2 and 4:4:4
+ * - luma and chroma of different depths
+ * - above 10 bits, offsets sent with a scale (log2_sao_offset_scale) other than depth minus 10
+ *
+ * 4:2:2 and 4:4:4 are refused by their format. The others no call can see: such a picture is accepted and comes out
+ * wrong.
+ *
+ * BUILDING
+ *
+ *     cc receiver.c $(pkg-config --cflags --libs steamgusset)     once tools/install has put it in its place
+ *     cc -Iinclude receiver.c libsteamgusset.a                    or without
+ *
+ * It takes C99 or later, or C++98 or later, with the types of <stdint.h> and a size_t of 8 bytes. Nothing else is
+ * linked but the C library. sg_version finds out an archive of another version. In the project, examples/receiver.c is
+ * a whole receiver, which compiles as C and as C++, and docs/CALLS.md lists the calls.
  *
  * THE LIFE OF A PICTURE
  *
- *     sg_state state = {                                   the description; what is not named is 0
- *         .width = 200, .height = 120, .ctb = 64, .format = 1, .depth = 10, .luma = 1, .chroma = 1};
- *     struct sg_sizes sizes;
+ *     sg_state state;                                      the description, by the names of its fields
+ *     memset(&state, 0, sizeof state);                     what is not named is 0
+ *     state.width = 200;
+ *     state.height = 120;
+ *     state.ctb = 64;
+ *     state.format = 1;
+ *     state.depth = 10;
+ *     state.luma = 1;
+ *     state.chroma = 1;
+ *     sg_picture_sizes sizes;
  *     sg_sizes(&state, &sizes);                            how long each buffer has to be; allocate them
  *     sg_open(&state, marks, sizes.marks);
  *     for each CTU, in raster order:
@@ -21,7 +46,7 @@
  *         sg_deliver(&state, component, ctb, samples, ...);
  *     for each CTB of each component, in any order, as soon as it is accepted:
  *         sg_filter(&state, component, ctb, ...);          SG_NOT_READY: ask again later
- *     at any time:
+ *     at any time, best when the last CTB of a CTB row has been filtered:
  *         sg_finished_rows(&state, component, ..., &rows); so many rows of the filtered plane are final
  *
  * Every order of these calls gives the same picture. For the next picture of the same size, open again. No buffer
@@ -29,10 +54,10 @@
  *
  * ANSWERS
  *
- * Every call answers SG_OK or the number of its refusal (enum sg_refusal). There is no other error, and no content of
- * the numbers and buffers handed in for which a call does anything else. Several reasons may hold at once; the answer
- * is the first in the order listed with the call. A refused call has changed nothing: the state and every buffer read
- * as before.
+ * Every call but sg_version answers SG_OK or the number of its refusal (enum sg_refusal). There is no other error, and
+ * no content of the numbers and buffers handed in for which a call does anything else. Several reasons may hold at
+ * once; the answer is the first in the order listed with the call. A refused call has changed nothing: the state and
+ * every buffer read as before.
  *
  * Damaged bins show, if at all, as SG_TOO_EARLY or SG_BINS_REMAIN, and a damaged count as SG_COUNT_TOO_LARGE too. A
  * receiver that conceals them calls sg_write with a set of its own choice, SG_SET_BYTES zero bytes for off, and throws
@@ -43,7 +68,8 @@
  *
  * All memory is the caller's. The stage keeps no pointer after a call, allocates nothing and has no global state, so
  * any number of pictures may be under way on any number of threads. Two calls that run at the same time must share no
- * buffer that either of them writes: since filter and deliver write the marks, calls on one picture take turns.
+ * buffer that either of them writes: since filter and deliver write the marks, calls on one picture take turns. So do
+ * they with what the caller itself writes into a buffer that is lent.
  *
  * Within a call, a buffer that is written (every pointer without const) overlaps no other buffer of the call. In
  * particular the filtered planes are not the deblocked ones. Buffers that are only read may overlap each other.
@@ -52,9 +78,26 @@
  * answer. Bytes may lie anywhere. A pointer with a length may be NULL if the length is 0, as for an absent plane. Every
  * other pointer points to as many elements as its length says. The pointers without a length are never NULL.
  *
- * Lengths are counted in elements: samples of a plane, bytes of marks, table and bins. A plane has no padding: row
- * after row, each as long as the plane is wide. Planes that begin with a cache line, at a multiple of 64 bytes, are
- * copied fastest.
+ * Lengths are counted in elements: samples of a plane, bytes of marks, table and bins. A sample has 16 bits at every
+ * depth. A plane has no padding: row after row, each as long as the plane is wide. Planes that begin with a cache line,
+ * at a multiple of 64 bytes, are copied fastest.
+ *
+ * WHAT THE CALLER MAY WRITE ITSELF
+ *
+ * Between two calls, everything. A call goes by what it is handed, whoever wrote it, and ends well. Of what it uses it
+ * refuses as SG_STORED what no accepted call leaves: a next CTU above the CTU count, a mark above 2, an entry of the
+ * table that is no set within the rules, a deblocked sample above 2^depth - 1. An accepted sg_filter gives the
+ * standard's samples for the set and the deblocked samples that stand there at that time.
+ *
+ * Blocks are best delivered by sg_deliver, which checks them. A decoder that deblocks within the deblocked planes may
+ * do without: when a CTB's samples are final, none above 2^depth - 1, it sets the CTB's mark, which is
+ * marks[component * sizes.ctus + ctb], from 0 to 1. That leaves what sg_deliver leaves. The samples of a CTB whose mark
+ * is 0 are never used.
+ *
+ * That every order gives the same picture is promised where state, marks, table and deblocked planes change by accepted
+ * calls, or as an accepted call would change them. After any other write it is the caller who sees to that: a deblocked
+ * sample changed after its mark was set is seen by the CTBs that are filtered later and not by those before, and a CTB
+ * that the caller marks 2 counts as filtered. What the filtered planes hold is used by no call.
  */
 #ifndef STEAMGUSSET_H
 #define STEAMGUSSET_H
@@ -65,6 +108,23 @@
 #ifdef __cplusplus
 extern "C" {
 #endif
+
+/* ---- version */
+
+/* The version of this header. The major number grows when what crosses changes so that a caller compiled before would
+ * be wrong, the minor number when something is added. */
+#define SG_VERSION_MAJOR 4
+#define SG_VERSION_MINOR 0
+#define SG_VERSION (SG_VERSION_MAJOR * 65536 + SG_VERSION_MINOR)
+
+/* The version of the archive, put together as SG_VERSION is. Header and archive fit if their major numbers are equal
+ * and the archive's minor number is at least the header's:
+ *
+ *     if (sg_version() / 65536 != SG_VERSION_MAJOR || sg_version() < SG_VERSION)
+ *         the archive is another version's
+ *
+ * It takes nothing and refuses nothing. An archive that does not have it is older than this header: linking fails. */
+uint32_t sg_version(void);
 
 /* ---- answers */
 
@@ -126,8 +186,8 @@ typedef struct sg_state {
 } sg_state;
 
 /* What a description asks the caller to lend, by sg_sizes. Arrays go by component: 0 luma, 1 Cb, 2 Cr. A component that
- * is absent has 0. The tag has no typedef, because a function has the same name. */
-struct sg_sizes {
+ * is absent has 0. */
+typedef struct sg_picture_sizes {
     size_t width[3];   /* of a plane, in its own samples */
     size_t height[3];
     size_t samples[3]; /* the length of a plane, deblocked or filtered: width * height */
@@ -136,15 +196,15 @@ struct sg_sizes {
     size_t ctus;       /* columns * rows */
     size_t marks;      /* the length of the marks: a byte for each CTB of each component present */
     size_t table;      /* the length of the table: SG_ENTRY_BYTES for each CTU */
-};
+} sg_picture_sizes;
 
 /* Where a CTB lies in its plane, by sg_block: columns x0 up to, and without, x1, rows y0 up to, and without, y1. */
-struct sg_block {
+typedef struct sg_block_place {
     size_t x0;
     size_t x1;
     size_t y0;
     size_t y1;
-};
+} sg_block_place;
 
 /* The finished part of a filtered plane: its first rows, and how many samples they are. */
 typedef struct sg_rows {
@@ -182,8 +242,8 @@ typedef struct sg_rows {
  * is an array of numbers, so the last one ends it. */
 #define SG_LAYOUT(name, holds) typedef char sg_layout_of_##name[(holds) ? 1 : -1]
 SG_LAYOUT(state, sizeof(sg_state) == offsetof(sg_state, next) + sizeof(uint32_t));
-SG_LAYOUT(sizes, sizeof(struct sg_sizes) == 14 * sizeof(size_t));
-SG_LAYOUT(block, sizeof(struct sg_block) == 4 * sizeof(size_t));
+SG_LAYOUT(sizes, sizeof(sg_picture_sizes) == 14 * sizeof(size_t));
+SG_LAYOUT(block, sizeof(sg_block_place) == 4 * sizeof(size_t));
 SG_LAYOUT(rows, sizeof(sg_rows) == 2 * sizeof(size_t));
 SG_LAYOUT(size, sizeof(size_t) == 8);
 SG_LAYOUT(room, 8 * SG_BINS_BYTES >= 2 + 135 + 135 + 133);
@@ -199,7 +259,7 @@ SG_LAYOUT(room, 8 * SG_BINS_BYTES >= 2 + 135 + 135 + 133);
  * Refused, in this order:
  *   SG_DESCRIPTION        the description breaks a rule
  */
-uint32_t sg_sizes(const sg_state *state, struct sg_sizes *sizes);
+uint32_t sg_sizes(const sg_state *state, sg_picture_sizes *sizes);
 
 /* Where a CTB lies in its plane; (x1 - x0) * (y1 - y0) samples are to be delivered for it. Only the description is
  * read.
@@ -213,7 +273,7 @@ uint32_t sg_sizes(const sg_state *state, struct sg_sizes *sizes);
  *   SG_DESCRIPTION        the description breaks a rule
  *   SG_NO_SUCH_BLOCK      the picture has no such component, or no CTB of that number
  */
-uint32_t sg_block(const sg_state *state, uint32_t component, uint32_t ctb, struct sg_block *block);
+uint32_t sg_block(const sg_state *state, uint32_t component, uint32_t ctb, sg_block_place *block);
 
 /* ---- the six calls */
 
@@ -339,6 +399,10 @@ uint32_t sg_filter(const sg_state *state, uint32_t component, uint32_t ctb, cons
 /* How much of a component's filtered plane is finished: its rows up to, and without, the first CTB row that has an
  * unfiltered CTB, or all rows. They do not change any more, so that the plane's first finished->samples samples, the
  * caller's own, may serve as reference.
+ *
+ * Every mark of the component is looked at once: what a call costs grows with the number of CTBs, and what it costs to
+ * ask after every block with its square (docs/SPEED.md has figures). The answer can have grown only after an accepted
+ * sg_filter of the last unfiltered CTB of a CTB row. So count the filtered CTBs of each CTB row, and ask then.
  *
  *   state       as the last call left it
  *   component   0 luma, 1 Cb, 2 Cr; a number without a component is refused, however large it is

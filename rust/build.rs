@@ -2,14 +2,18 @@
 //!
 //! `tools/archive steamgusset` proves and compiles. If the environment names a folder that holds the archive
 //! (`STEAMGUSSET_ARCHIVE_DIR`), that archive is linked instead and nothing is built. Cargo runs a build script in its
-//! package's folder, so every path here begins there, wherever the project lies.
+//! package's folder, so every path here begins there, wherever the project lies. The crate's front page says this to
+//! those who build it.
 
 use std::path::{Path, PathBuf};
-use std::process::{Command, exit};
+use std::process::{Command, ExitCode};
 use std::{env, fs};
 
 const ARCHIVE: &str = "libsteamgusset.a";
 const FOLDER_GIVEN: &str = "STEAMGUSSET_ARCHIVE_DIR";
+
+/// What every archive that this package can be linked with exports; those before did not.
+const EXPORTED: &[u8] = b"sg_version";
 
 /// What builds the archive, and where it leaves it.
 const BUILDER: &str = "../tools/archive";
@@ -19,43 +23,60 @@ const FOLDER_BUILT: &str = "../target/staticlib";
 const CRATES: &str = "../crates";
 const CRATE_LIST: &str = "../crates.txt";
 
-fn main() {
-    if let Err(sentence) = link() {
-        eprintln!("steamgusset: {sentence}");
-        exit(1);
+fn main() -> ExitCode {
+    println!("cargo::rerun-if-env-changed={FOLDER_GIVEN}");
+    match archive().and_then(|archive| link(&archive)) {
+        Ok(()) => ExitCode::SUCCESS,
+        Err(sentence) => {
+            println!("cargo::error={sentence}");
+            ExitCode::FAILURE
+        }
     }
 }
 
-fn link() -> Result<(), String> {
-    println!("cargo::rerun-if-env-changed={FOLDER_GIVEN}");
-    let archive = match env::var_os(FOLDER_GIVEN).filter(|folder| !folder.is_empty()) {
+/// The archive to link.
+fn archive() -> Result<PathBuf, String> {
+    match env::var_os(FOLDER_GIVEN).filter(|folder| !folder.is_empty()) {
         Some(folder) => given(Path::new(&folder)),
-        None => built()?,
-    };
-    // A copy among cargo's own files, so that nothing built later can change or take away what is linked.
-    let folder = env::var_os("OUT_DIR").map(PathBuf::from).ok_or("cargo names no folder to write to (OUT_DIR)")?;
-    fs::copy(&archive, folder.join(ARCHIVE)).map_err(|why| format!("cannot copy {}: {why}", archive.display()))?;
-    println!("cargo::rustc-link-search=native={}", folder.display());
-    println!("cargo::rustc-link-lib=static=steamgusset");
-    // For the tests that link it from C.
-    println!("cargo::rustc-env=STEAMGUSSET_ARCHIVE={}", folder.join(ARCHIVE).display());
-    Ok(())
+        None => built(),
+    }
 }
 
-fn given(folder: &Path) -> PathBuf {
+fn given(folder: &Path) -> Result<PathBuf, String> {
     let archive = folder.join(ARCHIVE);
     watch(&archive);
-    archive
+    if archive.is_file() {
+        Ok(archive)
+    } else {
+        Err(format!("{FOLDER_GIVEN} is {}, where there is no {ARCHIVE}", folder.display()))
+    }
 }
 
 fn built() -> Result<PathBuf, String> {
     watch_sources()?;
     let status = Command::new(BUILDER).arg("steamgusset").status();
     let status = status.map_err(|why| format!("cannot run {BUILDER}: {why}"))?;
-    if !status.success() {
-        return Err(format!("{BUILDER} steamgusset failed, so there is no {ARCHIVE} to link"));
+    if status.success() {
+        Ok(Path::new(FOLDER_BUILT).join(ARCHIVE))
+    } else {
+        Err(format!("{BUILDER} steamgusset has built no {ARCHIVE}; {FOLDER_GIVEN} may name a folder that holds one"))
     }
-    Ok(Path::new(FOLDER_BUILT).join(ARCHIVE))
+}
+
+fn link(archive: &Path) -> Result<(), String> {
+    let bytes = fs::read(archive).map_err(|why| format!("cannot read {}: {why}", archive.display()))?;
+    if !bytes.windows(EXPORTED.len()).any(|part| part == EXPORTED) {
+        return Err(format!("{} is of another version than this package: it has no sg_version", archive.display()));
+    }
+    // A copy among cargo's own files, so that nothing built later can change or take away what is linked.
+    let folder = env::var_os("OUT_DIR").map(PathBuf::from).ok_or("cargo names no folder to write to (OUT_DIR)")?;
+    let copy = folder.join(ARCHIVE);
+    fs::write(&copy, bytes).map_err(|why| format!("cannot write {}: {why}", copy.display()))?;
+    println!("cargo::rustc-link-search=native={}", folder.display());
+    println!("cargo::rustc-link-lib=static=steamgusset");
+    // For the tests that link it from C.
+    println!("cargo::rustc-env=STEAMGUSSET_ARCHIVE={}", copy.display());
+    Ok(())
 }
 
 /// Everything that the archive is made of. The archive is not among it: it is newer than this run.

@@ -1,6 +1,6 @@
 //! The scan and the calls besides filter.
 
-use crate::course::{Course, Filter, Scan};
+use crate::course::{Asked, Course, Filter, Scan};
 use crate::filter::{everywhere, mixed};
 use crate::table::{Table, number, ratio};
 use crate::timing::{Laps, Patience, each, lap, shortest};
@@ -15,7 +15,8 @@ const CALLS: usize = 2000;
 pub fn all(patience: Patience, out: &mut dyn Write) -> Done {
     samples(patience, out)?;
     sets(patience, out)?;
-    marks(patience, out)
+    marks(patience, out)?;
+    asked(patience, out)
 }
 
 fn picture(width: u32, height: u32, ctb: u32) -> Picture {
@@ -150,6 +151,30 @@ fn marks(patience: Patience, out: &mut dyn Write) -> Done {
         let [open, finished] = [open, finished].map(|time| [number(each(time, 1)), number(each(time, ctbs))]);
         let ([open, open_each], [finished, finished_each]) = (open, finished);
         table.row([format!("{ctb}x{ctb}"), ctbs.to_string(), open, open_each, finished, finished_each]);
+    }
+    writeln!(out, "{table}")?;
+    Ok(())
+}
+
+fn asked(patience: Patience, out: &mut dyn Write) -> Done {
+    writeln!(
+        out,
+        "### Finished rows asked on the way\n\n\
+         Nanoseconds a sample, 3840x2160 in 4:2:0 at 10 bits; off, band and the four edge classes take turns from CTU to CTU. \
+         The filter calls alone; with finished rows of the block's component asked after the last block of each CTB row, \
+         which is when they can have grown; and asked after every filter call.\n"
+    )?;
+    let mut table =
+        Table::new(["block", "CTBs", "filter", "asked each row", "/ filter", "asked each call", "/ filter"]);
+    for ctb in [64, 32, 16] {
+        let mut course = Course::new(picture(3840, 2160, ctb), mixed)?;
+        let when = [Asked::Never, Asked::EachRow, Asked::EachCall];
+        let times = shortest(patience, when, |asked| course.filter_and_ask(asked))?;
+        let [filter, row, call] = times.map(|time| each(time, course.samples()));
+        let ctbs = 3 * course.ctus();
+        let [rows, calls] = [row, call].map(|time| [number(time), ratio(time / filter)]);
+        let cells = [vec![format!("{ctb}x{ctb}"), ctbs.to_string(), number(filter)], rows.to_vec(), calls.to_vec()];
+        table.row(cells.into_iter().flatten());
     }
     writeln!(out, "{table}")?;
     Ok(())

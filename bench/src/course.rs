@@ -45,6 +45,16 @@ pub enum Filter {
     Memcpy,
 }
 
+/// When the finished rows of a component are asked for, besides its blocks being filtered.
+#[derive(Clone, Copy)]
+pub enum Asked {
+    Never,
+    /// After the last block of a CTB row, which is when they can have grown.
+    EachRow,
+    /// After every block.
+    EachCall,
+}
+
 /// A CTU's bins and their number.
 #[derive(Clone)]
 struct Bins([u8; BINS_BYTES], usize);
@@ -168,11 +178,27 @@ impl Course {
     }
 
     fn by_stage(&mut self) -> Result<Laps, Refusal> {
+        self.filter_and_ask(Asked::Never)
+    }
+
+    /// Filters every block by the stage, and asks for finished rows.
+    pub fn filter_and_ask(&mut self, asked: Asked) -> Result<Laps, Refusal> {
         self.marks.fill(1);
         let parts = take(&mut self.parts);
-        let laps = laps(&parts, |part| self.filter_part(part));
+        let laps = laps(&parts, |part| {
+            self.filter_part(part)?;
+            if self.is_asked(part, asked) { self.finished_rows_of(part.component) } else { Ok(()) }
+        });
         self.parts = parts;
         laps
+    }
+
+    fn is_asked(&self, part: &Part, asked: Asked) -> bool {
+        match asked {
+            Asked::Never => false,
+            Asked::EachRow => part.block.x1 == self.sizes.width[part.component],
+            Asked::EachCall => true,
+        }
     }
 
     fn filter_part(&mut self, part: &Part) -> Result<(), Refusal> {
@@ -205,12 +231,15 @@ impl Course {
     /// Asks for the finished rows of every component.
     pub fn finished_rows(&self) -> Result<Laps, Refusal> {
         lap(|| {
-            for number in (0..3).filter(|&number| self.sizes.samples[number] > 0) {
-                let planes = self.filtered.each_ref().map(|plane| &plane[..]);
-                black_box(calls::finished_rows(&self.state, number as u32, planes, &self.marks)?);
-            }
-            Ok(())
+            let mut present = (0..3).filter(|&component| self.sizes.samples[component] > 0);
+            present.try_for_each(|component| self.finished_rows_of(component))
         })
+    }
+
+    fn finished_rows_of(&self, component: usize) -> Result<(), Refusal> {
+        let planes = self.filtered.each_ref().map(|plane| &plane[..]);
+        black_box(calls::finished_rows(&self.state, component as u32, planes, &self.marks)?);
+        Ok(())
     }
 
     /// Whether the plain loops leave what the stage leaves.

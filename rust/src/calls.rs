@@ -46,7 +46,8 @@ pub fn open(state: &mut State, marks: &mut [u8]) -> Result<(), Refusal> {
     accepted(ffi::open(state, marks))
 }
 
-/// Reads the next CTU's set from the first `count` bins, most significant bit of a byte first, and stores it.
+/// Reads the next CTU's set from the first `count` bins, most significant bit of a byte first, and stores it. They are
+/// the bins of its sao() syntax (7.3.8.3), after arithmetic decoding.
 ///
 /// # Errors
 ///
@@ -112,6 +113,9 @@ pub fn filter(
 
 /// Says how much of a filtered plane is finished: its rows down to the first CTB row that has an unfiltered CTB.
 ///
+/// It may be asked at any time. Every mark of the component is looked at once each time, so what it costs grows with the
+/// number of CTBs. More rows can be finished only after the last unfiltered CTB of a CTB row was filtered: ask then.
+///
 /// # Errors
 ///
 /// In this order: [`Refusal::Description`]; [`Refusal::Length`] of planes and marks; [`Refusal::Stored`] for the next
@@ -142,6 +146,29 @@ pub fn block(state: &State, component: u32, ctb: u32) -> Result<Block, Refusal> 
     let mut block = Block::default();
     accepted(ffi::sg_block(state, component, ctb, &mut block))?;
     Ok(block)
+}
+
+/// The version of this crate: major and minor. That of the stage which is linked, [`version`], is meant to be the same.
+pub const VERSION: (u32, u32) = (number(env!("CARGO_PKG_VERSION_MAJOR")), number(env!("CARGO_PKG_VERSION_MINOR")));
+
+/// The number that cargo has as text.
+const fn number(text: &str) -> u32 {
+    match u32::from_str_radix(text, 10) {
+        Ok(number) => number,
+        Err(_) => panic!("a version has numbers"),
+    }
+}
+
+/// The version of the linked stage: major and minor.
+///
+/// ```
+/// // An archive of another version may have been named to be linked.
+/// assert_eq!(steamgusset::version(), steamgusset::VERSION);
+/// ```
+#[must_use]
+pub fn version() -> (u32, u32) {
+    let version = ffi::sg_version();
+    (version >> 16, version & 0xFFFF)
 }
 
 /// What an answer says.

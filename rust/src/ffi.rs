@@ -1,16 +1,40 @@
 //! The C interface: the functions of `libsteamgusset.a` as `include/steamgusset.h` declares them, and what crosses.
 //!
-//! This is the one module with `unsafe` in it. Each function is declared as it is exported; below, each has a safe
-//! function that lends it slices and hands back its bare answer, 0 or a refusal's number. [`calls`](crate::calls) gives
-//! the answers their meaning.
+//! This is the one module with `unsafe` in it. Each function is declared as it is exported. [`calls`](crate::calls) has
+//! a safe function for each, on slices, and gives the answers their meaning: here they are bare, 0 or the number of a
+//! [`Refusal`](crate::Refusal).
 //!
-//! Why lending a slice is sound:
+//! # Memory
 //!
-//! - a slice's pointer is aligned and valid for as many elements as its length says, which is what crosses beside it;
-//!   an empty slice's is never followed;
-//! - what is lent to be written is borrowed with `&mut`, so that nothing else that crosses overlaps it;
+//! No number, length or content is unsafe to hand in: a function does its work or refuses, and is proved to. What it
+//! cannot test is the memory behind a pointer. Whoever calls a function that takes pointers sees to these:
+//!
+//! - **Valid.** A pointer is valid for as many elements as the length beside it says: for reading, and a `*mut` for
+//!   writing too. Lengths are counted in elements: samples of a plane, bytes of marks, table and bins. A pointer may be
+//!   null if its length is 0, as for an absent plane; it is not followed.
+//! - **Initialised.** State, bins, samples to deliver and a set to write are. Planes, marks, table and what is filled in
+//!   need not be cleared: no answer, set or filtered sample depends on what they held before the opening.
+//! - **Aligned.** A pointer to samples is aligned as [`u16`] is, at 2 bytes. Bytes may lie anywhere.
+//! - **Apart.** What may be written, behind a `*mut` or a `&mut`, overlaps nothing else that the call is lent, behind a
+//!   pointer or a reference. In particular the filtered planes are not the deblocked ones. What is only read may overlap
+//!   what is only read.
+//! - **Alone.** While a call runs, no other thread writes what the call is lent, and none reads what the call may write.
+//!   Deliver and filter write the marks, so the calls on one picture take turns. Pictures that share no memory may be
+//!   under way on any number of threads.
+//!
+//! Nothing is kept after a call: no function stores a pointer, allocates, or has memory of its own. A plane has no
+//! padding: row after row, each as long as the plane is wide. What crosses as a reference is valid and aligned by its
+//! type, and never null.
+//!
+//! # Why lending a slice is sound
+//!
+//! The safe functions lend slices, with their own lengths:
+//!
+//! - a slice's pointer is aligned, and valid and initialised for as many elements as its length says;
+//! - what is lent to be written is borrowed with `&mut`, so that nothing else that crosses overlaps it, and no other
+//!   thread reaches it; what is lent to be read is borrowed with `&`, so that none writes it;
 //! - the functions are proved: they have no precondition, stay inside what they are lent, and keep none of it after
-//!   they answer; they have no memory of their own, so calls from several threads do not meet;
+//!   they answer;
 //! - what they leave are numbers of the types declared, of which every value is valid.
 #![allow(unsafe_code)]
 
@@ -119,15 +143,15 @@ unsafe extern "C" {
     ///
     /// # Safety
     ///
-    /// As for every function here that takes pointers: each must be valid for the length beside it, and what may be
-    /// written must overlap nothing else that is lent. A null pointer with length 0 is fine.
+    /// [Memory](self#memory) holds of `marks`, which is written: `marks_length` bytes, `state` no part of them.
     pub unsafe fn sg_open(state: &mut State, marks: *mut u8, marks_length: usize) -> u32;
 
     /// Reads the next CTU's set from the first `count` bins.
     ///
     /// # Safety
     ///
-    /// As for [`sg_open`].
+    /// [Memory](self#memory) holds of `bins`, which is read: `bins_length` bytes, however large `count` is; and of `table`,
+    /// which is written: `table_length` bytes, with `bins`, `state` and `set` no part of them.
     pub unsafe fn sg_read(
         state: &mut State,
         bins: *const u8,
@@ -142,7 +166,8 @@ unsafe extern "C" {
     ///
     /// # Safety
     ///
-    /// As for [`sg_open`].
+    /// [Memory](self#memory) holds of `out` and `table`, which are written: `out_length` and `table_length` bytes, apart
+    /// from one another, with `state`, `set` and `count` no part of them.
     pub unsafe fn sg_write(
         state: &mut State,
         set: &[u8; SET_BYTES],
@@ -157,7 +182,9 @@ unsafe extern "C" {
     ///
     /// # Safety
     ///
-    /// As for [`sg_open`].
+    /// [Memory](self#memory) holds of `samples`, which are read: `samples_length` samples; and of `y`, `cb`, `cr` and
+    /// `marks`, which are written: `y_length`, `cb_length` and `cr_length` samples and `marks_length` bytes, apart from
+    /// one another, with `samples` and `state` no part of them.
     pub unsafe fn sg_deliver(
         state: &State,
         component: u32,
@@ -178,7 +205,10 @@ unsafe extern "C" {
     ///
     /// # Safety
     ///
-    /// As for [`sg_open`].
+    /// [Memory](self#memory) holds of `y`, `cb`, `cr` and `table`, which are read: `y_length`, `cb_length` and `cr_length`
+    /// samples and `table_length` bytes; and of `out_y`, `out_cb`, `out_cr` and `marks`, which are written:
+    /// `out_y_length`, `out_cb_length` and `out_cr_length` samples and `marks_length` bytes, apart from one another, with
+    /// the deblocked planes, `table` and `state` no part of them.
     pub unsafe fn sg_filter(
         state: &State,
         component: u32,
@@ -201,11 +231,12 @@ unsafe extern "C" {
         table_length: usize,
     ) -> u32;
 
-    /// Says how much of a filtered plane is finished.
+    /// Says how much of a filtered plane is finished. Every mark of the component is looked at.
     ///
     /// # Safety
     ///
-    /// As for [`sg_open`].
+    /// [Memory](self#memory) holds of `y`, `cb`, `cr` and `marks`, which are read: `y_length`, `cb_length` and `cr_length`
+    /// samples and `marks_length` bytes, with `finished`, which is written, no part of them.
     pub unsafe fn sg_finished_rows(
         state: &State,
         component: u32,
@@ -225,6 +256,9 @@ unsafe extern "C" {
 
     /// Says where a CTB lies in its plane.
     pub safe fn sg_block(state: &State, component: u32, ctb: u32, block: &mut Block) -> u32;
+
+    /// The version of the archive: major * 65536 + minor.
+    pub safe fn sg_version() -> u32;
 }
 
 // The same on slices.

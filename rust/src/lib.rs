@@ -3,11 +3,31 @@
 //!
 //! The stage itself is written in Rattle and proved: every call ends well on every input, is refused exactly for the
 //! stated reasons in the stated order with nothing changed, and gives exactly the parameters and samples of ITU-T H.265
-//! (04/2013), in whatever order the calls come. This crate links it as a C archive and adds what Rust knows of memory.
+//! (04/2013), in whatever order the calls come, for the pictures named under Limits. This crate links it as a C archive
+//! and adds what Rust knows of memory.
 //!
-//! - [`Stage`]: a picture with its buffers. Begin here.
+//! - [`Stage`]: a picture with its buffers. Begin here. The buffers can be taken out, and put in again.
 //! - [`calls`]: the same calls on a state and buffers that you keep.
 //! - [`ffi`]: the C interface itself, the one module with `unsafe` in it.
+//!
+//! # Limits
+//!
+//! Which pictures: the stage gives the standard's samples for every picture that keeps the rules of its description and
+//! has none of what is not covered yet:
+//!
+//! - several slices; one slice may have any number of segments
+//! - tiles
+//! - lossless units, and PCM units whose loop filtering is disabled: they keep their samples
+//! - 4:2:2 and 4:4:4
+//! - luma and chroma of different depths
+//! - above 10 bits, offsets sent with a scale (log2_sao_offset_scale) other than depth minus 10
+//!
+//! 4:2:2 and 4:4:4 are refused by their format. The others no call can see: such a picture is accepted and comes out
+//! wrong.
+//!
+//! The rules are those of [`Picture`].
+//!
+//! # An example
 //!
 //! A whole picture of two CTUs, side by side, delivered from right to left:
 //!
@@ -29,14 +49,14 @@
 //!         println!("{count} bins mean {set}");
 //!     }
 //!
-//!     // Blocks come as they are deblocked. Each is filtered as soon as the stage accepts it; what is refused waits,
+//!     // Blocks come as they are deblocked. Each is filtered as soon as the stage accepts it; what is not ready waits,
 //!     // as the one on the right does for its neighbour.
 //!     let mut waiting = Vec::new();
 //!     for (ctb, level) in [(1, 50), (0, 100)] {
 //!         let samples = vec![level; stage.block(0, ctb)?.samples()];
 //!         stage.deliver(0, ctb, &samples)?;
 //!         waiting.push(ctb);
-//!         waiting.retain(|&ctb| stage.filter(0, ctb).is_err());
+//!         waiting.retain(|&ctb| stage.filter(0, ctb) == Err(Refusal::NotReady));
 //!     }
 //!     assert!(waiting.is_empty());
 //!
@@ -53,9 +73,33 @@
 //! ```
 //!
 //! Component 0 is luma, 1 Cb, 2 Cr. Samples are 16 bit at every depth.
+//!
+//! # Building
+//!
+//! A package that lies beside the project names this one by its folder:
+//!
+//! ```toml
+//! [dependencies]
+//! steamgusset = { path = "../steamgusset/rust" }
+//! ```
+//!
+//! It depends on no other package. The stage, `libsteamgusset.a`, is linked into the program, which needs no file of the
+//! project's when it runs. The build script takes the archive
+//!
+//! 1. from the folder that the environment variable `STEAMGUSSET_ARCHIVE_DIR` names, if it is set and not empty. A
+//!    relative path begins in the folder of this package. Nothing is proved or compiled, and no kit is needed;
+//! 2. else from `tools/archive steamgusset`, which proves the stage and compiles it for this machine, x86-64 or Arm
+//!    (aarch64) Linux. That needs the project around this package and, on the `PATH`, the Rattle kit's command `rt`. The
+//!    first time it takes some minutes, of which cargo shows nothing but with `-vv`; later, only if the stage changed.
+//!
+//! With neither the build stops, and says what is missing. It stops too at an archive from before version 4.0; of
+//! others, [`version`] says whether they are this crate's, [`VERSION`].
+//!
+//! The script reads one variable more, cargo's own `OUT_DIR`: the folder where it keeps a copy of what it links.
 #![deny(unsafe_code)]
 #![warn(missing_docs)]
 
+mod buffers;
 pub mod calls;
 pub mod ffi;
 mod picture;
@@ -63,8 +107,10 @@ mod refusal;
 mod sets;
 mod stage;
 
+pub use buffers::{Buffers, Lent, Memory, Plane, Refused};
+pub use calls::{VERSION, version};
 pub use ffi::{Block, Rows, Sizes, State};
 pub use picture::Picture;
 pub use refusal::Refusal;
 pub use sets::{BINS_BYTES, CtuSet, ENTRY_BYTES, Offsets, SET_BYTES};
-pub use stage::{Lent, Stage};
+pub use stage::Stage;

@@ -30,11 +30,11 @@ pub struct Picture {
     pub ctb: u32,
     /// chroma_format_idc: 0 monochrome, 1 is 4:2:0.
     pub format: u8,
-    /// Bit depth.
+    /// Bit depth of all components.
     pub depth: u8,
-    /// The switch that says whether luma is filtered.
+    /// The switch that says whether luma is filtered: slice_sao_luma_flag.
     pub luma: bool,
-    /// The switch that says whether Cb and Cr are filtered.
+    /// The switch that says whether Cb and Cr are filtered: slice_sao_chroma_flag.
     pub chroma: bool,
 }
 

@@ -7,6 +7,11 @@ use std::fmt;
 ///
 /// Each call has its reasons in a fixed order, listed in `docs/CALLS.md`; a refusal is the first that holds.
 ///
+/// What a running decoder meets: [`Refusal::NotReady`] means later. Damaged bins show, if at all, as
+/// [`Refusal::TooEarly`] or [`Refusal::BinsRemain`], and a damaged count as [`Refusal::CountTooLarge`] too. To conceal
+/// them, write a set of your own choice, [`CtuSet::OFF`](crate::CtuSet::OFF) or another, and throw its bins away: that
+/// stores the set and moves on to the next CTU. Every other refusal says that the decoder's own books are wrong.
+///
 /// ```
 /// use steamgusset::Refusal;
 ///

@@ -1,5 +1,6 @@
 //! A picture with its buffers: the calls as methods, on memory that nothing else can change between them.
 
+use crate::buffers::{Buffers, Lent, Memory, Refused};
 use crate::calls;
 use crate::ffi::{Block, Rows, Sizes, State};
 use crate::picture::Picture;
@@ -7,21 +8,8 @@ use crate::refusal::Refusal;
 use crate::sets::CtuSet;
 use std::fmt;
 
-/// The buffers of a [`Stage`] that the caller keeps, of the lengths that [`Picture::sizes`] says; an absent plane is
-/// empty. What is in them does not matter. Planes that begin with a cache line are copied fastest.
-#[derive(Debug)]
-pub struct Lent<'a> {
-    /// Luma, Cb and Cr before the filter.
-    pub deblocked: [&'a mut [u16]; 3],
-    /// Luma, Cb and Cr after the filter.
-    pub filtered: [&'a mut [u16]; 3],
-    /// How far each CTB is.
-    pub marks: &'a mut [u8],
-    /// The sets.
-    pub table: &'a mut [u8],
-}
-
-/// A picture with its buffers, its own ([`Stage::open`]) or lent ([`Stage::open_lent`]).
+/// A picture with its buffers: `Stage` has its own ([`Stage::open`], [`Stage::open_in`]), `Stage<Lent>` has lent ones
+/// ([`Stage::open_lent`]).
 ///
 /// The calls may come in any order; each does its work or is refused, and a refused call changes nothing. Nothing but
 /// the stage can reach the buffers while it lives, so no method is ever refused for what is stored
@@ -39,39 +27,86 @@ pub struct Lent<'a> {
 /// assert_eq!(stage.finished_rows(0)?, [9; 64]);
 /// # Ok::<(), Refusal>(())
 /// ```
-pub struct Stage<'a> {
+///
+/// # Threads
+///
+/// A stage is [`Send`] and [`Sync`], with buffers of its own and with lent ones. What changes a picture takes
+/// `&mut self`, so the calls on one picture take turns, on whichever threads they come; stages share nothing, so
+/// different pictures go on different threads without a lock. What only looks, as [`Stage::finished_rows`] does, takes
+/// `&self`: while no call changes the picture, several threads may look at it.
+///
+/// ```
+/// use steamgusset::{CtuSet, Picture, Refusal, Stage};
+///
+/// let picture = Picture { width: 8, height: 8, ctb: 16, format: 0, depth: 8, luma: true, chroma: false };
+/// let mut stages = [Stage::open(picture)?, Stage::open(picture)?];
+/// std::thread::scope(|scope| {
+///     for stage in &mut stages {
+///         scope.spawn(|| stage.write(&CtuSet::OFF, &mut [0]));
+///     }
+/// });
+/// assert_eq!(stages.map(|stage| stage.next_ctu()), [1, 1]);
+/// # Ok::<(), Refusal>(())
+/// ```
+pub struct Stage<B = Buffers> {
     picture: Picture,
     sizes: Sizes,
     state: State,
-    deblocked: [Buffer<'a, u16>; 3],
-    filtered: [Buffer<'a, u16>; 3],
-    marks: Buffer<'a, u8>,
-    table: Buffer<'a, u8>,
+    buffers: B,
 }
 
-impl Stage<'static> {
+impl Stage {
     /// Opens a picture on buffers of its own, all 0; planes begin with a cache line.
     ///
     /// # Errors
     ///
     /// [`Refusal::Description`].
-    pub fn open(picture: Picture) -> Result<Stage<'static>, Refusal> {
+    pub fn open(picture: Picture) -> Result<Stage, Refusal> {
         let sizes = picture.sizes()?;
-        let mut stage = Stage {
-            picture,
-            sizes,
-            state: picture.state(),
-            deblocked: sizes.samples.map(Buffer::zeros),
-            filtered: sizes.samples.map(Buffer::zeros),
-            marks: Buffer::zeros(sizes.marks),
-            table: Buffer::zeros(sizes.table),
-        };
-        stage.reopen()?;
-        Ok(stage)
+        Ok(Stage::opened(picture, sizes, Buffers::zeros(&sizes)))
+    }
+
+    /// Opens a picture on buffers that become the stage's own. They are moved, not copied: with
+    /// [`Stage::into_buffers`], the planes of a finished picture go to the reference store, and those of a picture that
+    /// is no longer referred to come back in their place.
+    ///
+    /// # Errors
+    ///
+    /// In this order: [`Refusal::Description`]; [`Refusal::Length`] of any buffer. The buffers come back as they were.
+    ///
+    /// ```
+    /// use steamgusset::{Buffers, CtuSet, Picture, Plane, Refusal, Stage};
+    ///
+    /// let picture = Picture { width: 8, height: 8, ctb: 16, format: 0, depth: 8, luma: true, chroma: false };
+    /// let mut unused = vec![picture.sizes()?.samples.map(Plane::zeros)];
+    /// let mut references = Vec::new();
+    ///
+    /// let mut buffers = Buffers::zeros(&picture.sizes()?);
+    /// for level in [9, 5] {
+    ///     let mut stage = Stage::open_in(picture, buffers)?;
+    ///     stage.write(&CtuSet::OFF, &mut [0])?;
+    ///     stage.deliver(0, 0, &[level; 64])?;
+    ///     stage.filter(0, 0)?;
+    ///
+    ///     buffers = stage.into_buffers();
+    ///     references.push(buffers.filtered);
+    ///     buffers.filtered = unused.pop().unwrap_or_default();
+    /// }
+    /// assert_eq!(references[0][0][..], [9; 64]);
+    /// assert_eq!(references[1][0][..], [5; 64]);
+    ///
+    /// // No planes are left for a third picture. What does not fit is not lost.
+    /// let refused = Stage::open_in(picture, buffers).unwrap_err();
+    /// assert_eq!(refused.refusal, Refusal::Length);
+    /// assert_eq!(refused.buffers.deblocked[0][..], [5; 64]);
+    /// # Ok::<(), Refusal>(())
+    /// ```
+    pub fn open_in(picture: Picture, buffers: Buffers) -> Result<Stage, Refused> {
+        Stage::fitted(picture, buffers).map_err(|(refusal, buffers)| Refused { refusal, buffers: buffers.into() })
     }
 }
 
-impl<'a> Stage<'a> {
+impl<'a> Stage<Lent<'a>> {
     /// Opens a picture on lent buffers.
     ///
     /// # Errors
@@ -96,30 +131,32 @@ impl<'a> Stage<'a> {
     /// assert_eq!(after, [9; 64]);
     /// # Ok::<(), Refusal>(())
     /// ```
-    pub fn open_lent(picture: Picture, lent: Lent<'a>) -> Result<Stage<'a>, Refusal> {
-        let sizes = picture.sizes()?;
-        // Open itself is lent the marks alone; the rest would be found wrong only by a later call.
-        if !lent.fits(&sizes) {
-            return Err(Refusal::Length);
+    pub fn open_lent(picture: Picture, lent: Lent<'a>) -> Result<Stage<Lent<'a>>, Refusal> {
+        Stage::fitted(picture, lent).map_err(|(refusal, _)| refusal)
+    }
+}
+
+impl<B: Memory> Stage<B> {
+    /// A picture on buffers that may not fit; then they come back.
+    fn fitted(picture: Picture, mut buffers: B) -> Result<Stage<B>, (Refusal, B)> {
+        match picture.sizes() {
+            Err(refusal) => Err((refusal, buffers)),
+            // Open itself is lent the marks alone; the rest would be found wrong only by a later call.
+            Ok(sizes) if !buffers.lend().fits(&sizes) => Err((Refusal::Length, buffers)),
+            Ok(sizes) => Ok(Stage::opened(picture, sizes, buffers)),
         }
-        let mut stage = Stage {
-            picture,
-            sizes,
-            state: picture.state(),
-            deblocked: lent.deblocked.map(Buffer::Lent),
-            filtered: lent.filtered.map(Buffer::Lent),
-            marks: Buffer::Lent(lent.marks),
-            table: Buffer::Lent(lent.table),
-        };
-        stage.reopen()?;
-        Ok(stage)
+    }
+
+    /// A picture on buffers of its sizes.
+    fn opened(picture: Picture, sizes: Sizes, buffers: B) -> Stage<B> {
+        let mut stage = Stage { picture, sizes, state: picture.state(), buffers };
+        stage.reopen();
+        stage
     }
 
     /// Opens the next picture of the same description, in the same buffers. No CTU has its set and no CTB is delivered.
     ///
-    /// # Errors
-    ///
-    /// None: description and lengths were accepted when the stage was opened.
+    /// It is never refused: description and lengths were accepted when the stage was opened.
     ///
     /// ```
     /// use steamgusset::{CtuSet, Picture, Refusal, Stage};
@@ -128,12 +165,35 @@ impl<'a> Stage<'a> {
     /// let mut stage = Stage::open(picture)?;
     /// stage.write(&CtuSet::OFF, &mut [0])?;
     /// assert_eq!(stage.next_ctu(), 1);
-    /// stage.reopen()?;
+    /// stage.reopen();
     /// assert_eq!(stage.next_ctu(), 0);
     /// # Ok::<(), Refusal>(())
     /// ```
-    pub fn reopen(&mut self) -> Result<(), Refusal> {
-        calls::open(&mut self.state, self.marks.as_mut())
+    pub fn reopen(&mut self) {
+        let answer = calls::open(&mut self.state, self.buffers.lend().marks);
+        // Description and length of the marks are the only reasons, by proof, and neither can change. A receiver is not
+        // stopped for what cannot be: if one held, deliver, filter and finished rows would be refused for it as well.
+        debug_assert_eq!(answer, Ok(()));
+    }
+
+    /// Ends the picture, finished or not, and hands out its buffers: the stage's own, or those that were lent. Nothing
+    /// is copied.
+    ///
+    /// ```
+    /// use steamgusset::{CtuSet, Picture, Refusal, Stage};
+    ///
+    /// let picture = Picture { width: 8, height: 8, ctb: 16, format: 0, depth: 8, luma: true, chroma: false };
+    /// let mut stage = Stage::open(picture)?;
+    /// stage.write(&CtuSet::OFF, &mut [0])?;
+    /// stage.deliver(0, 0, &[9; 64])?;
+    /// stage.filter(0, 0)?;
+    /// let [luma, _, _] = stage.into_buffers().filtered;
+    /// assert_eq!(luma[..], [9; 64]);
+    /// # Ok::<(), Refusal>(())
+    /// ```
+    #[must_use]
+    pub fn into_buffers(self) -> B {
+        self.buffers
     }
 
     /// The description that the stage was opened with.
@@ -163,7 +223,8 @@ impl<'a> Stage<'a> {
         calls::block(&self.state, component, ctb)
     }
 
-    /// Reads the next CTU's set from the first `count` bins, most significant bit of a byte first.
+    /// Reads the next CTU's set from the first `count` bins, most significant bit of a byte first. They are the bins of
+    /// its sao() syntax (7.3.8.3), after arithmetic decoding.
     ///
     /// # Errors
     ///
@@ -183,7 +244,7 @@ impl<'a> Stage<'a> {
     /// # Ok::<(), Refusal>(())
     /// ```
     pub fn read(&mut self, bins: &[u8], count: usize) -> Result<CtuSet, Refusal> {
-        calls::read(&mut self.state, bins, count, self.table.as_mut())
+        calls::read(&mut self.state, bins, count, self.buffers.lend().table)
     }
 
     /// Writes the next CTU's set as bins into `out` and answers their number. Room of
@@ -207,7 +268,7 @@ impl<'a> Stage<'a> {
     /// # Ok::<(), Refusal>(())
     /// ```
     pub fn write(&mut self, set: &CtuSet, out: &mut [u8]) -> Result<usize, Refusal> {
-        calls::write(&mut self.state, set, out, self.table.as_mut())
+        calls::write(&mut self.state, set, out, self.buffers.lend().table)
     }
 
     /// Takes one CTB's deblocked samples, row after row. [`Stage::block`] says how many they are.
@@ -229,8 +290,8 @@ impl<'a> Stage<'a> {
     /// # Ok::<(), Refusal>(())
     /// ```
     pub fn deliver(&mut self, component: u32, ctb: u32, samples: &[u16]) -> Result<(), Refusal> {
-        let deblocked = self.deblocked.each_mut().map(Buffer::as_mut);
-        calls::deliver(&self.state, component, ctb, samples, deblocked, self.marks.as_mut())
+        let Lent { deblocked, marks, .. } = self.buffers.lend();
+        calls::deliver(&self.state, component, ctb, samples, deblocked, marks)
     }
 
     /// Filters one CTB. It is ready once its CTU has its set and it and its neighbours, up to eight, were delivered.
@@ -252,13 +313,16 @@ impl<'a> Stage<'a> {
     /// # Ok::<(), Refusal>(())
     /// ```
     pub fn filter(&mut self, component: u32, ctb: u32) -> Result<(), Refusal> {
-        let deblocked = self.deblocked.each_ref().map(Buffer::as_ref);
-        let filtered = self.filtered.each_mut().map(Buffer::as_mut);
-        calls::filter(&self.state, component, ctb, deblocked, filtered, self.marks.as_mut(), self.table.as_ref())
+        let Lent { deblocked, filtered, marks, table } = self.buffers.lend();
+        calls::filter(&self.state, component, ctb, deblocked.map(|plane| &*plane), filtered, marks, table)
     }
 
     /// The finished rows of a filtered plane, which may be used as reference: the plane's rows down to the first CTB
     /// row that has an unfiltered CTB.
+    ///
+    /// It may be asked at any time. Every mark of the component is looked at once each time, so what it costs grows
+    /// with the number of CTBs. More rows can be finished only after the last unfiltered CTB of a CTB row was filtered:
+    /// ask then.
     ///
     /// # Errors
     ///
@@ -284,7 +348,7 @@ impl<'a> Stage<'a> {
         Ok(self.filtered(component).get(..finished.samples).unwrap_or_default())
     }
 
-    /// How many sample rows of a filtered plane are finished.
+    /// How many sample rows of a filtered plane are finished. It costs what [`Stage::finished_rows`] does.
     ///
     /// # Errors
     ///
@@ -294,81 +358,33 @@ impl<'a> Stage<'a> {
     }
 
     fn finished(&self, component: u32) -> Result<Rows, Refusal> {
-        let filtered = self.filtered.each_ref().map(Buffer::as_ref);
-        calls::finished_rows(&self.state, component, filtered, self.marks.as_ref())
+        calls::finished_rows(&self.state, component, self.buffers.filtered(), self.buffers.marks())
     }
 
     /// A deblocked plane as it is now; empty where there is no such component. A CTB that was not delivered has what
     /// the buffer had there before.
     #[must_use]
     pub fn deblocked(&self, component: u32) -> &[u16] {
-        plane(&self.deblocked, component)
+        plane(self.buffers.deblocked(), component)
     }
 
     /// A filtered plane as it is now, finished or not; empty where there is no such component. A CTB that was not
     /// filtered has what the buffer had there before.
     #[must_use]
     pub fn filtered(&self, component: u32) -> &[u16] {
-        plane(&self.filtered, component)
+        plane(self.buffers.filtered(), component)
     }
 }
 
 /// The description and the next CTU; the planes would be too long to read.
-impl fmt::Debug for Stage<'_> {
+impl<B> fmt::Debug for Stage<B> {
     fn fmt(&self, out: &mut fmt::Formatter) -> fmt::Result {
         let mut stage = out.debug_struct("Stage");
         stage.field("picture", &self.picture).field("next_ctu", &self.state.next).finish_non_exhaustive()
     }
 }
 
-impl Lent<'_> {
-    /// Whether every buffer has its length.
-    fn fits(&self, sizes: &Sizes) -> bool {
-        let samples = |planes: &[&mut [u16]; 3]| planes.each_ref().map(|plane| plane.len());
-        samples(&self.deblocked) == sizes.samples
-            && samples(&self.filtered) == sizes.samples
-            && self.marks.len() == sizes.marks
-            && self.table.len() == sizes.table
-    }
-}
-
-/// One buffer of a stage.
-enum Buffer<'a, T> {
-    /// From a place in the memory on.
-    Owned(Vec<T>, usize),
-    Lent(&'a mut [T]),
-}
-
-/// Bytes of a cache line.
-const LINE: usize = 64;
-
-impl<T: Copy + Default> Buffer<'_, T> {
-    fn zeros(length: usize) -> Self {
-        let spare = LINE / size_of::<T>();
-        let mut memory = vec![T::default(); length + spare];
-        let start = memory.as_ptr().align_offset(LINE).min(spare);
-        memory.truncate(start + length);
-        Buffer::Owned(memory, start)
-    }
-}
-
-impl<T> Buffer<'_, T> {
-    fn as_ref(&self) -> &[T] {
-        match self {
-            Buffer::Owned(memory, start) => &memory[*start..],
-            Buffer::Lent(buffer) => buffer,
-        }
-    }
-
-    fn as_mut(&mut self) -> &mut [T] {
-        match self {
-            Buffer::Owned(memory, start) => &mut memory[*start..],
-            Buffer::Lent(buffer) => buffer,
-        }
-    }
-}
-
-fn plane<'p>(planes: &'p [Buffer<'_, u16>; 3], component: u32) -> &'p [u16] {
+fn plane(planes: [&[u16]; 3], component: u32) -> &[u16] {
     let place = usize::try_from(component).ok();
-    place.and_then(|place| planes.get(place)).map_or(&[], Buffer::as_ref)
+    place.and_then(|place| planes.get(place).copied()).unwrap_or_default()
 }

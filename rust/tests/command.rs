@@ -1,5 +1,7 @@
 //! The command as it is run: its lines, its sentences, its files and its exit status.
 
+mod folders;
+
 use std::fs;
 use std::path::{Path, PathBuf};
 use std::process::{Command, Stdio};
@@ -19,6 +21,27 @@ fn ran(command: &mut Command) -> Ran {
     (ran.status.code(), text(ran.stdout), text(ran.stderr))
 }
 
+/// Runs it with a standard output that nothing reads.
+fn unread(arguments: &[&str]) -> Ran {
+    let (reader, writer) = std::io::pipe().expect("a pipe");
+    drop(reader);
+    ran_to(arguments, writer)
+}
+
+/// Runs it with a standard output of the test's own.
+fn ran_to(arguments: &[&str], out: impl Into<Stdio>) -> Ran {
+    let child = command(arguments).stdout(out).stderr(Stdio::piped()).spawn().expect("the command runs");
+    let ended = child.wait_with_output().expect("the command ends");
+    (ended.status.code(), String::new(), String::from_utf8(ended.stderr).expect("text"))
+}
+
+/// Runs it with a standard output that is closed.
+fn closed(arguments: &[&str]) -> Ran {
+    let mut shell = Command::new("sh");
+    shell.args(["-c", "exec \"$0\" \"$@\" >&-", env!("CARGO_BIN_EXE_steamgusset")]).args(arguments);
+    ran(shell.stdin(Stdio::null()))
+}
+
 fn steamgusset(arguments: &[&str]) -> Ran {
     ran(&mut command(arguments))
 }
@@ -34,12 +57,7 @@ fn one_sentence(error: &str) -> bool {
 
 /// A folder of the test's own, empty.
 fn folder(name: &str) -> PathBuf {
-    let folder = PathBuf::from(env!("CARGO_TARGET_TMPDIR")).join(format!("command-{name}"));
-    if folder.exists() {
-        fs::remove_dir_all(&folder).expect("an old folder goes away");
-    }
-    fs::create_dir_all(&folder).expect("a folder for the test");
-    folder
+    folders::empty(&format!("command-{name}"))
 }
 
 fn path(folder: &Path, name: &str) -> String {
@@ -136,9 +154,13 @@ fn edge(class: u8, offsets: [i8; 4]) -> [u8; 8] {
 fn the_bundled_vectors_agree() {
     let (status, lines, error) = check(&[], &vectors());
     assert_eq!((status, error.as_str()), (Some(0), ""));
-    assert_eq!(lines.lines().filter(|line| line.ends_with(": agrees")).count(), 24);
+    assert_eq!(lines.lines().filter(|line| line.ends_with(": agrees")).count(), 26);
     let total = lines.lines().last().expect("a last line");
-    assert!(total.starts_with("24 agree, 0 differ, 0 not covered, 0 damaged; 81888 samples,"), "{total}");
+    let counts = "26 agree, 0 differ, 0 not covered, 0 damaged, 0 cannot be read; 235680 samples, ";
+    assert!(
+        total.starts_with(counts) && total.contains(" of 587 blocks filtered before the last delivery, "),
+        "{total}"
+    );
 }
 
 #[test]
@@ -146,7 +168,7 @@ fn every_seed_agrees() {
     for seed in ["0", "2", "3", "18446744073709551615"] {
         let (status, lines, error) = check(&["--seed", seed], &vectors());
         assert_eq!((status, error.as_str()), (Some(0), ""));
-        assert!(lines.contains("24 agree, 0 differ"), "{lines}");
+        assert!(lines.contains("26 agree, 0 differ"), "{lines}");
     }
 }
 
@@ -175,74 +197,6 @@ fn a_difference_names_the_first_sample() {
     assert_eq!((status, error.as_str()), (Some(1), ""));
     let sentence = format!("differs: Cr at column 35, row 26: got {was}, expected {}\n", was ^ 1);
     assert!(lines.contains(&sentence) && lines.contains("\n1 agree, 1 differ,"), "{lines}");
-}
-
-#[test]
-fn pictures_not_covered_are_counted_apart() {
-    let folder = folder("not-covered");
-    let bytes = || bytes_of("x_420_8_72x56_ctu16");
-    // A lossless unit: the skip map ends where the planes, twice, begin.
-    let mut lossless = with_field(bytes(), 23, 2);
-    let last_of_skip_map = lossless.len() - 2 * 2 * (72 * 56 * 3 / 2) - 1;
-    lossless[last_of_skip_map] |= 2;
-    // Two tile columns of the five CTB columns; two slice segments, the second as the first.
-    let mut tiles = with_field(bytes(), 13, 2);
-    tiles.splice(140..140, 2i32.to_le_bytes());
-    let mut slices = with_field(bytes(), 15, 2);
-    slices.splice(152..152, bytes()[152..176].iter().copied());
-    // In 4:2:2 the chroma planes are twice as high.
-    let mut high = with_field(with_field(bytes(), 2, 2), 24, 2);
-    high.extend(vec![0; 2 * 2 * (72 * 56 / 2)]);
-    let made: [(&str, Vec<u8>, &str); 7] = [
-        ("tiles.sao", tiles, "it has several tiles"),
-        ("slices.sao", slices, "it has several slice segments"),
-        ("high.sao", high, "its format is 4:2:2"),
-        ("chroma.sao", with_field(bytes(), 4, 9), "it has two depths"),
-        ("deep.sao", with_field(with_field(bytes(), 3, 12), 4, 12), "its depth is above 10"),
-        ("scaled.sao", with_field(bytes(), 10, 1), "its offsets have a scale"),
-        ("lossless.sao", lossless, "it has samples kept from the filter"),
-    ];
-    let mut files: Vec<String> = made.iter().map(|(name, bytes, _)| file(&folder, name, bytes)).collect();
-    files.push(vector("x_420_8_72x56_ctu16"));
-    let (status, lines, error) = check(&[], &files);
-    assert_eq!((status, error.as_str()), (Some(0), ""));
-    for (line, (name, _, why)) in lines.lines().zip(&made) {
-        assert!(line.contains(name) && line.contains(&format!("not covered: {why}")), "{line}");
-    }
-    assert!(lines.contains("\n1 agree, 0 differ, 7 not covered, 0 damaged;"), "{lines}");
-}
-
-#[test]
-fn damaged_files_get_a_sentence_each() {
-    let folder = folder("damaged");
-    let bytes = || bytes_of("x_420_8_72x56_ctu16");
-    let (whole, first_ctu) = (bytes().len(), 136 + 16 + 24);
-    let longer = [bytes(), vec![0]].concat();
-    let mut type_three = bytes();
-    type_three[first_ctu + 4] = 3;
-    let mut position_forty = bytes();
-    position_forty[first_ctu + 4..first_ctu + 6].copy_from_slice(&[1, 40]);
-    let damaged: [(Vec<u8>, &str); 9] = [
-        (vec![], "the file does not begin with the mark SAOVEC1"),
-        (b"SAOVEC2\0".to_vec(), "the file does not begin with the mark SAOVEC1"),
-        (bytes()[..100].to_vec(), "the file ends within its header"),
-        (bytes()[..whole - 1].to_vec(), "the file has 24990 bytes, but its header asks for 24991"),
-        (longer, "the file has 24992 bytes, but its header asks for 24991"),
-        (with_field(bytes(), 0, i32::MAX), "the width is 2147483647, outside 8 to 65528"),
-        (with_field(bytes(), 15, i32::MAX), "the number of slice segments is 2147483647, outside 1 to 20"),
-        (type_three, "a CTU has type 3, which is none of 0, 1 and 2"),
-        (position_forty, "writing the set of CTU 0 is refused 12: no bins mean this set"),
-    ];
-    for (number, (bytes, why)) in damaged.iter().enumerate() {
-        let name = file(&folder, &format!("{number}.sao"), bytes);
-        let (status, lines, error) = check(&[], std::slice::from_ref(&name));
-        assert_eq!((status, error), (Some(1), format!("steamgusset: {name}: {why}\n")));
-        assert_eq!(lines, "0 agree, 0 differ, 0 not covered, 1 damaged\n");
-    }
-    let (status, _, error) = check(&[], &[path(&folder, "no-such-file.sao")]);
-    assert!(status == Some(1) && one_sentence(&error), "{error}");
-    let (status, _, error) = check(&[], &[path(&folder, "")]);
-    assert!(status == Some(1) && one_sentence(&error), "{error}");
 }
 
 /// Every file has its line or its sentence, so no file ended the command.
@@ -307,7 +261,7 @@ fn filter_says_what_it_did() {
     let (out, prefix) = (path(&folder, "out.yuv"), path(&folder, "p"));
     let (status, line, _) = steamgusset(&["filter", &vector("s_420_10_clip"), "--output", &out, "--ppm", &prefix]);
     let files = ["before", "after", "difference"].map(|which| format!("{prefix}-{which}.ppm"));
-    let expected = format!("72x56 4:2:0 depth 10: 3113 samples changed, written {out}, {}\n", files.join(", "));
+    let expected = format!("72x56 4:2:0 depth 10: 3113 samples changed, written: {out}, {}\n", files.join(", "));
     assert_eq!((status, line), (Some(0), expected));
     assert_eq!(names(&folder), ["out.yuv", "p-after.ppm", "p-before.ppm", "p-difference.ppm"]);
 }
@@ -390,6 +344,165 @@ fn the_difference_is_amplified_as_asked() {
     }
 }
 
+type Pixels = Vec<[u8; 3]>;
+
+/// Width and pixels of the image that compares, and the pixels of the images before, after and difference.
+fn compared(folder: &Path, name: &str) -> (usize, Pixels, [Pixels; 3]) {
+    let (all, prefix) = (path(folder, "all.png"), path(folder, "p"));
+    assert_eq!(steamgusset(&["filter", name, "--compare", &all, "--png", &prefix]).0, Some(0));
+    let pixels = |name: String| {
+        let (width, _, pixels) = pixels_of_png(&fs::read(name).expect("a PNG"));
+        (width as usize, pixels.as_chunks().0.to_vec())
+    };
+    let (width, all) = pixels(all);
+    (width, all, ["before", "after", "difference"].map(|which| pixels(format!("{prefix}-{which}.png")).1))
+}
+
+/// So many rows and columns of an image, with a step between them.
+fn block(image: &[[u8; 3]], width: usize, (x, y): (usize, usize), size: (usize, usize), step: usize) -> Pixels {
+    let row = |number: usize| (0..size.0).map(move |column| (x + step * column, y + step * number));
+    (0..size.1).flat_map(row).map(|(x, y)| image[y * width + x]).collect()
+}
+
+#[test]
+fn a_small_picture_is_compared_whole() {
+    let folder = folder("compare-small");
+    let mut before = [0; 64];
+    let mut after = [0; 64];
+    (before[9], after[9]) = (248, 255);
+    let name = file(&folder, "one.sao", &made(8, 8, &[band(31, [7, 0, 0, 0])], &before, &after));
+    let (width, all, images) = compared(&folder, &name);
+    // Columns as wide as the names, of which a letter takes 12 pixels, or as the detail, and 12 pixels between all.
+    assert_eq!((width, all.len() / width), (12 + 72 + 12 + 64 + 12 + 120 + 12, 12 + 14 + 12 + 8 + 12 + 64 + 12));
+    for (image, (x, column)) in images.iter().zip([(12, 72), (96, 64), (172, 120)]) {
+        assert!(block(&all, width, (x + (column - 8) / 2, 38), (8, 8), 1) == *image);
+        // Each sample of the detail is a square of eight by eight pixels.
+        for corner in [(0, 0), (7, 0), (0, 7), (7, 7), (3, 4)] {
+            let place = (x + (column - 64) / 2 + corner.0, 58 + corner.1);
+            assert!(block(&all, width, place, (8, 8), 8) == *image);
+        }
+    }
+}
+
+#[test]
+fn the_detail_is_where_luma_changed_most() {
+    let folder = folder("compare-detail");
+    // A picture of sixteen CTBs of which the last alone changes: the detail ends with it.
+    let mut sets = [[0; 8]; 16];
+    sets[15] = band(1, [3, 0, 0, 0]);
+    let before: Vec<u16> = (0..64 * 64).map(|place| 8 + place % 7).collect();
+    let last = |place: usize| place % 64 >= 48 && place / 64 >= 48;
+    let after: Vec<u16> =
+        before.iter().enumerate().map(|(place, sample)| sample + 3 * u16::from(last(place))).collect();
+    let name = file(&folder, "last.sao", &made(64, 64, &sets, &before, &after));
+    let (width, all, images) = compared(&folder, &name);
+    assert_eq!((width, all.len() / width), (12 + 3 * (384 + 12), 12 + 14 + 12 + 64 + 12 + 384 + 12));
+    for (image, x) in images.iter().zip([12, 408, 804]) {
+        let detail = block(image, 64, (16, 16), (48, 48), 1);
+        assert!(block(&all, width, (x, 114), (48, 48), 8) == detail);
+        // Above, the detail has its outline, and nothing else is changed.
+        let shown = block(&all, width, (x + 160, 38), (64, 64), 1);
+        let outlined = |place: usize| {
+            let (column, row) = (place % 64, place / 64);
+            column >= 16 && row >= 16 && ([16, 63].contains(&column) || [16, 63].contains(&row))
+        };
+        for (place, (shown, image)) in shown.iter().zip(image).enumerate() {
+            assert_eq!(*shown, if outlined(place) { [255, 224, 0] } else { *image }, "{place}");
+        }
+    }
+}
+
+#[test]
+fn a_large_picture_is_reduced_above_its_detail() {
+    let folder = folder("compare-large");
+    // One CTB row, of which the second half of the third CTB changes: every third sample is shown, 430 in a row.
+    let mut sets = [[0; 8]; 81];
+    sets[2] = band(1, [3, 0, 0, 0]);
+    let before: Vec<u16> =
+        (0..1288 * 16).map(|place| if (40..48).contains(&(place % 1288)) { 8 } else { 80 }).collect();
+    let after: Vec<u16> = before.iter().map(|sample| if *sample == 8 { 11 } else { *sample }).collect();
+    let name = file(&folder, "large.sao", &made(1288, 16, &sets, &before, &after));
+    let (width, all, images) = compared(&folder, &name);
+    assert_eq!((width, all.len() / width), (12 + 3 * (430 + 12), 12 + 14 + 12 + 6 + 12 + 128 + 12));
+    for (image, x) in images.iter().zip([12, 454, 896]) {
+        // The first detail with these eight columns in it is the leftmost.
+        assert!(block(&all, width, (x + 23, 56), (48, 16), 8) == block(image, 1288, (0, 0), (48, 16), 1));
+        let (shown, thinned) = (block(&all, width, (x, 38), (430, 6), 1), block(image, 1288, (0, 0), (430, 6), 3));
+        let outlined = |place: usize| {
+            let (column, row) = (place % 430, place / 430);
+            column < 16 && row < 5 && ([0, 15].contains(&column) || [0, 4].contains(&row))
+        };
+        for (place, (shown, thinned)) in shown.iter().zip(&thinned).enumerate() {
+            assert_eq!(*shown, if outlined(place) { [255, 224, 0] } else { *thinned }, "{place}");
+        }
+    }
+}
+
+#[test]
+fn the_longest_pictures_are_compared() {
+    let folder = folder("compare-long");
+    for (width, height) in [(8192, 8), (8, 8192)] {
+        let samples = vec![9; 8 * 8192];
+        let name = file(&folder, "long.sao", &made(width, height, &[[0; 8]; 512], &samples, &samples));
+        // Every thirteenth sample is shown. Nothing changes, so the detail is the first.
+        let (whole, all, _) = compared(&folder, &name);
+        let (across, down) = (width.div_ceil(13), height.div_ceil(13));
+        let columns = [72, 60, 120].map(|name: usize| name.max(across).max(8 * width.min(48)));
+        assert_eq!(whole, columns.iter().map(|column| column + 12).sum::<usize>() + 12);
+        assert_eq!(all.len() / whole, 12 + 14 + 12 + down + 12 + 8 * height.min(48) + 12);
+        let panel = 38 * whole + 12 + (columns[0] - across) / 2;
+        assert_eq!(all[panel], [255, 224, 0]);
+    }
+}
+
+#[test]
+fn a_comparison_may_be_ppm_and_amplified() {
+    let folder = folder("compare-ppm");
+    let name = vector("card_420_8");
+    let [png, ppm, more] = ["a.png", "a.ppm", "more.png"].map(|name| path(&folder, name));
+    let (status, line, error) = steamgusset(&["filter", &name, "--compare", &png]);
+    assert_eq!((status, error.as_str()), (Some(0), ""));
+    assert_eq!(line, format!("416x240 4:2:0 depth 8: 35655 samples changed, written: {png}\n"));
+    assert_eq!(steamgusset(&["filter", &name, "--compare", &ppm]).0, Some(0));
+    assert_eq!(steamgusset(&["filter", &name, "--compare", &more, "--amplify", "30"]).0, Some(0));
+    let (width, height, pixels) = pixels_of_png(&fs::read(&png).expect("a PNG"));
+    let expected = [format!("P6\n{width} {height}\n255\n").as_bytes(), &pixels].concat();
+    assert!(fs::read(&ppm).expect("a PPM") == expected);
+    assert!(pixels_of_png(&fs::read(&more).expect("a PNG")).2 != pixels);
+}
+
+#[test]
+fn an_output_may_be_the_standard_output() {
+    let folder = folder("standard-output");
+    let name = vector("x_420_8_72x56_ctu16");
+    let (out, png) = (path(&folder, "out.yuv"), path(&folder, "out.png"));
+    assert_eq!(steamgusset(&["filter", &name, "-o", &out, "--compare", &png]).0, Some(0));
+    for (words, file) in [
+        (["-o", "-", "--compare", &png], &out),
+        (["--output=/dev/stdout", "--compare", &png, "--amplify=16"], &out),
+        (["-o", &out, "--compare", "-"], &png),
+    ] {
+        let ran = command(&["filter", &name]).args(words).output().expect("the command runs");
+        assert!(ran.status.success() && ran.stdout == fs::read(file).expect("the same as a file"));
+        let said = String::from_utf8(ran.stderr).expect("text");
+        assert!(one_sentence(&said) && said.contains("samples changed, written: ") && said.contains("standard output"));
+    }
+    // A file of that name is asked for by its folder.
+    let (status, line, error) = ran(command(&["filter", &name, "-o", "./-"]).current_dir(&folder));
+    assert!(status == Some(0) && line.ends_with("written: ./-\n") && error.is_empty(), "{line}");
+    assert!(names(&folder).contains(&"-".into()));
+}
+
+#[test]
+fn a_broken_standard_output_leaves_the_files_as_they_were() {
+    let folder = folder("standard-output-broken");
+    let png = file(&folder, "out.png", b"old");
+    let arguments = ["filter", &vector("x_420_8_72x56_ctu16"), "-o", "-", "--compare", &png];
+    assert_eq!((unread(&arguments).0, closed(&arguments).0), (Some(3), Some(3)));
+    assert_eq!(names(&folder), ["out.png"]);
+    assert!(fs::read(&png).expect("the old file") == b"old");
+}
+
 #[test]
 fn a_failure_leaves_the_files_as_they_were() {
     let folder = folder("kept");
@@ -415,15 +528,13 @@ fn a_failure_leaves_the_files_as_they_were() {
 fn filter_refuses_what_it_cannot_filter() {
     let folder = folder("filter-refuses");
     let bytes = bytes_of("s_420_8_tiny8x8_ctb4");
-    let scaled = file(&folder, "scaled.sao", &with_field(bytes.clone(), 9, 1));
+    let scaled = file(&folder, "scaled.sao", &with_field(bytes_of("s_400_12_scale"), 9, 1));
     let cut = file(&folder, "cut.sao", &bytes[..200]);
     let out = path(&folder, "out.yuv");
     let (status, _, error) = steamgusset(&["filter", &scaled, "-o", &out]);
     assert_eq!(status, Some(1));
-    assert_eq!(
-        error,
-        format!("steamgusset: {scaled}: the stage does not cover the picture: its offsets have a scale\n")
-    );
+    let sentence = "the stage does not cover the picture: its offsets are sent with scale 1 for luma";
+    assert!(one_sentence(&error) && error.starts_with(&format!("steamgusset: {scaled}: {sentence}; ")), "{error}");
     let (status, _, error) = steamgusset(&["filter", &cut, "-o", &out]);
     assert!(status == Some(1) && one_sentence(&error), "{error}");
     assert!(!Path::new(&out).exists());
@@ -470,7 +581,7 @@ fn case_2_off() {
 #[test]
 fn case_3_edge() {
     both_ways("--depth 8", "E340", 11, "edge:2:1,0,0,-2/off/off");
-    let (status, lines, _) = typed("bins --depth 8 E3 5F 11");
+    let (status, lines, _) = steamgusset(&["bins", "--depth", "8", "E3 5F", "11"]);
     assert_eq!((status, said_set(&lines)), (Some(0), "edge:2:1,0,0,-2/off/off"));
 }
 
@@ -490,7 +601,7 @@ fn case_4_counts_refused() {
 #[test]
 fn case_5_band() {
     both_ways("--depth 8", "9CAF00", 17, "band:30:0,-3,0,1/off/off");
-    let (_, lines, _) = typed("bins 9C AF 00 17");
+    let (_, lines, _) = steamgusset(&["bins", "9C AF 00", "17"]);
     assert_eq!(element(&lines, "sao_offset_sign[1]"), ["1", "1"]);
     assert_eq!(element(&lines, "sao_band_position"), ["11110", "30"]);
     // A magnitude of 0 has no sign.
@@ -535,9 +646,12 @@ fn case_9_merges() {
 fn case_10_too_early() {
     let folder = folder("case-10");
     let bytes = made(32, 16, &[[0; 8], [0; 8]], &[9; 512], &[9; 512]);
-    let (status, lines, _) = check(&[], &[file(&folder, "two.sao", &bytes)]);
-    // Each CTB is asked for when its set is in and when either CTB is delivered: six times, of which two are accepted.
-    assert!(status == Some(0) && lines.contains(" 4 asks too early"), "{lines}");
+    let name = file(&folder, "two.sao", &bytes);
+    for seed in ["1", "2", "3", "4"] {
+        let (status, lines, _) = check(&["--seed", seed], std::slice::from_ref(&name));
+        // Each CTB waits for the other, so neither is filtered before both are delivered.
+        assert!(status == Some(0) && lines.contains(" 0 of 2 blocks filtered before the last delivery"), "{lines}");
+    }
 }
 
 #[test]
@@ -587,10 +701,23 @@ fn help_and_version() {
         let (status, help, error) = steamgusset(&[name, "--help"]);
         assert_eq!((status, error.as_str()), (Some(0), ""));
         assert_eq!(steamgusset(&["help", name]).1, help);
-        assert!(help.contains("examples:") && help.contains("exit status: 0") && general.contains(name), "{help}");
+        assert_eq!(steamgusset(&["--help", name]).1, help);
+        assert!(help.contains("\nexamples:\n") && general.contains(name), "{help}");
     }
-    let version = format!("steamgusset {}\n", env!("CARGO_PKG_VERSION"));
-    assert_eq!(steamgusset(&["--version"]), (Some(0), version, String::new()));
+    let (major, minor) = steamgusset::version();
+    let version = format!("steamgusset {}, stage {major}.{minor}\n", env!("CARGO_PKG_VERSION"));
+    assert_eq!(steamgusset(&["--version"]), (Some(0), version.clone(), String::new()));
+    assert_eq!(steamgusset(&["-V"]).1, version);
+}
+
+#[test]
+fn every_help_says_the_exit_statuses() {
+    for line in ["help", "help check", "help filter", "help bins"] {
+        let help = typed(line).1.split_whitespace().collect::<Vec<_>>().join(" ");
+        let statuses = help.split_once(" exit status: 0 ").expect("the exit statuses").1;
+        assert!(statuses.contains("; 1 ") && statuses.contains("; 2 a bad command line It is 3 if "), "{help}");
+        assert!(statuses.ends_with("closed or broken when something is to be printed, whatever else was found."));
+    }
 }
 
 #[test]
@@ -605,10 +732,20 @@ fn a_bad_command_line() {
         "check --seed",
         "check --seed one a",
         "check --seed -1 a",
+        "check --seed= a",
+        "check --seed --seed a",
         "check --seed 1 --seed 2 a",
         "filter",
         "filter a",
-        "filter a b -o c",
+        "filter a -o",
+        "filter a -o --png p",
+        "filter a -o --png=p",
+        "filter a -o -- p",
+        "filter a -oc",
+        "filter a --png -",
+        "filter a --ppm -",
+        "filter a -o - --compare -",
+        "filter a -o - --compare /dev/stdout",
         "filter a -o c --png p --ppm p",
         "filter a -o c --amplify 3",
         "filter a -o c --png p --amplify 0",
@@ -623,7 +760,6 @@ fn a_bad_command_line() {
         "bins --depth 17 00 1",
         "bins --luma maybe 00 1",
         "bins --set edge",
-        "bins --set off 00 1",
         "bins --left edge:1 00 1",
         "bins --set FFFFFFFFFFFFFFFFFFFFFFFFFFFFFFFFFFFF",
     ] {
@@ -645,14 +781,65 @@ fn values_may_be_joined_and_words_may_look_like_options() {
 }
 
 #[test]
-fn nobody_reads_the_output() {
-    for arguments in [&["--help"][..], &["bins", "E340", "11"], &["check", &vector("x_420_8_72x56_ctu16")]] {
-        let (reader, writer) = std::io::pipe().expect("a pipe");
-        drop(reader);
-        let child = command(arguments).stdout(writer).stderr(Stdio::piped()).spawn().expect("the command runs");
-        let ended = child.wait_with_output().expect("the command ends");
-        assert_eq!((ended.status.code(), ended.stderr.as_slice()), (Some(1), b"".as_slice()));
+fn a_word_too_many_is_named() {
+    for (line, word) in [
+        ("help check bins", "bins"),
+        ("--help check bins", "bins"),
+        ("--version now", "now"),
+        ("-V --help", "--help"),
+        ("filter a b -o c", "b"),
+        ("filter a -o c d e", "d"),
+        ("bins --depth 8 10 E340 11", "11"),
+        ("bins E3 40 11", "11"),
+        ("bins --set off 00 1", "00"),
+    ] {
+        let (status, lines, error) = typed(line);
+        assert_eq!((status, lines.as_str()), (Some(2), ""), "{line}");
+        assert!(one_sentence(&error) && error.contains(&format!(", and {word} is a word too many; try ")), "{error}");
     }
+    for (line, value) in [("check --seed 7x a", "7x"), ("filter a --png p --amplify 3,5", "3,5")] {
+        let (status, _, error) = typed(line);
+        assert!(status == Some(2) && one_sentence(&error) && error.contains(&format!(", not {value}; ")), "{error}");
+    }
+}
+
+#[test]
+fn the_standard_output_has_a_status_of_its_own() {
+    let folder = folder("status-3");
+    let (name, out) = (vector("x_420_8_72x56_ctu16"), path(&folder, "out.yuv"));
+    // Whatever else was found: one that differs, and bins that are refused.
+    let mut differs = fs::read(&name).expect("a readable vector");
+    let last = differs.len() - 2;
+    differs[last] ^= 1;
+    let differs = file(&folder, "differs.sao", &differs);
+    let lines: [&[&str]; 9] = [
+        &["--help"],
+        &["help", "check"],
+        &["--version"],
+        &["check", &name],
+        &["check", &differs],
+        &["filter", &name, "-o", &out],
+        &["filter", &name, "-o", "-"],
+        &["bins", "E340", "11"],
+        &["bins", "E340", "12"],
+    ];
+    for line in lines {
+        // Nobody reads, so nobody is told either.
+        assert_eq!(unread(line), (Some(3), String::new(), String::new()), "{line:?}");
+        let (status, _, error) = closed(line);
+        assert_eq!(
+            (status, error.as_str()),
+            (Some(3), "steamgusset: the standard output cannot be written: it is closed\n")
+        );
+        let full = fs::OpenOptions::new().write(true).open("/dev/full").expect("the device that is full");
+        let (status, _, error) = ran_to(line, full);
+        assert!(
+            status == Some(3) && one_sentence(&error) && error.contains("the standard output cannot be"),
+            "{error}"
+        );
+    }
+    // The null device is none of these.
+    assert_eq!(ran_to(&["check", &name], Stdio::null()).0, Some(0));
 }
 
 #[test]

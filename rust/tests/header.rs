@@ -1,9 +1,10 @@
-//! The header, the documents, the exported code and this package say the same: numbers, names, words, fields, and each
-//! call's reasons in their order.
+//! The header, the documents, the exported code and this package say the same: the version, numbers, names, words, fields,
+//! each call's reasons in their order, and which pictures are not covered.
 
+use std::collections::BTreeSet;
 use std::fmt::Debug;
 use std::path::Path;
-use steamgusset::{BINS_BYTES, Block, ENTRY_BYTES, Refusal, Rows, SET_BYTES, Sizes, State};
+use steamgusset::{BINS_BYTES, Block, ENTRY_BYTES, Refusal, Rows, SET_BYTES, Sizes, State, ffi};
 
 /// A text of the project.
 fn text(file: &str) -> String {
@@ -81,6 +82,25 @@ fn listed_order(header: &str, function: &str) -> Vec<u32> {
     names.map(|name| number(name).unwrap_or_else(|| panic!("{function}: no refusal SG_{name}"))).collect()
 }
 
+/// `finished rows` as C says it: `sg_finished_rows`.
+fn function_of(call: &str) -> String {
+    format!("sg_{}", call.replace(' ', "_"))
+}
+
+/// The functions that the header declares.
+struct Functions {
+    refusing: BTreeSet<String>,
+    /// Those that take nothing, as `sg_version`: they have nothing to refuse.
+    idle: BTreeSet<String>,
+}
+
+fn functions(header: &str) -> Functions {
+    let declared = header.lines().filter_map(|line| line.strip_prefix("uint32_t ")?.split_once('('));
+    let (idle, refusing): (Vec<_>, Vec<_>) = declared.partition(|(_, takes)| *takes == "void);");
+    let names = |list: Vec<(&str, &str)>| list.into_iter().map(|(name, _)| name.into()).collect();
+    Functions { refusing: names(refusing), idle: names(idle) }
+}
+
 /// Each call of docs/CALLS.md and its reasons.
 fn documented_calls(document: &str) -> Vec<(String, Vec<u32>)> {
     let six = rows(document, "| Call | Is lent, besides the state | Reasons, in order | An accepted call changes |");
@@ -92,9 +112,9 @@ fn documented_calls(document: &str) -> Vec<(String, Vec<u32>)> {
 fn every_call_lists_its_reasons_in_the_documents_order() {
     let (header, document) = (header(), text("docs/CALLS.md"));
     let calls = documented_calls(&document);
-    assert_eq!(calls.len(), header.matches("\nuint32_t sg_").count());
+    assert_eq!(calls.iter().map(|(call, _)| function_of(call)).collect::<BTreeSet<_>>(), functions(&header).refusing);
     for (call, order) in calls {
-        let function = format!("sg_{}", call.replace(' ', "_"));
+        let function = function_of(&call);
         assert_eq!(listed_order(&header, &function), order, "{function}");
     }
 }
@@ -111,7 +131,9 @@ fn every_function_that_the_document_names_is_there() {
         Some(_) => false,
     };
     let table = rows(&document, "| Call | C | Rust, on lent slices | Rust, a picture with its buffers |");
-    assert_eq!(table.len(), documented_calls(&document).len());
+    let Functions { refusing, idle } = functions(&header);
+    assert_eq!(table.iter().map(|row| function_of(&row[0])).collect::<BTreeSet<_>>(), refusing);
+    assert!(idle.iter().all(|name| document.contains(&format!("`{name}"))), "{idle:?} are not named");
     for name in table.iter().flat_map(|row| &row[1..]).flat_map(|cell| cell.split(", ")) {
         assert!(declared(name.trim_matches('`')), "{name}");
     }
@@ -134,8 +156,8 @@ fn fields_here(value: &impl Debug) -> Vec<String> {
 fn what_crosses_has_the_same_fields_in_the_same_order() {
     let header = header();
     assert_eq!(fields(&header, "sg_state"), fields_here(&State::default()));
-    assert_eq!(fields(&header, "sg_sizes"), fields_here(&Sizes::default()));
-    assert_eq!(fields(&header, "sg_block"), fields_here(&Block::default()));
+    assert_eq!(fields(&header, "sg_picture_sizes"), fields_here(&Sizes::default()));
+    assert_eq!(fields(&header, "sg_block_place"), fields_here(&Block::default()));
     assert_eq!(fields(&header, "sg_rows"), fields_here(&Rows::default()));
 }
 
@@ -170,4 +192,34 @@ fn the_headers_lengths_are_ours() {
     assert_eq!(defined(&header, "SG_SET_BYTES"), SET_BYTES);
     assert_eq!(defined(&header, "SG_ENTRY_BYTES"), ENTRY_BYTES);
     assert_eq!(defined(&header, "SG_BINS_BYTES"), BINS_BYTES);
+}
+
+#[test]
+fn the_version_is_the_same_everywhere() {
+    let (header, code) = (header(), text("crates/steamgusset/src/lib.rt"));
+    let here = [("MAJOR", env!("CARGO_PKG_VERSION_MAJOR")), ("MINOR", env!("CARGO_PKG_VERSION_MINOR"))];
+    for (part, number) in here {
+        assert_eq!(defined(&header, &format!("SG_VERSION_{part}")).to_string(), number);
+        assert_eq!(between(&code, &format!("const VERSION_{part}: u32 = "), ";"), number);
+    }
+    let [major, minor] = here.map(|(_, number)| number.parse::<u32>().expect("a number"));
+    assert_eq!(between(&header, "#define SG_VERSION ", "\n"), "(SG_VERSION_MAJOR * 65536 + SG_VERSION_MINOR)");
+    assert_eq!(ffi::sg_version(), major * 65536 + minor);
+}
+
+/// What a text says of the pictures that are not covered yet, without comment marks, code marks and line breaks.
+fn limits(text: &str) -> String {
+    let unmarked = |line: &str| line.trim_start().trim_start_matches(['/', '!', '*']).replace('`', "");
+    let words = text.lines().map(unmarked).collect::<Vec<_>>().join(" ");
+    let words = words.split_whitespace().collect::<Vec<_>>().join(" ");
+    between(&words, "has none of what is not covered yet: ", " comes out wrong.").into()
+}
+
+#[test]
+fn the_limits_are_said_in_the_same_words_everywhere() {
+    let said = limits(&header());
+    assert!(said.starts_with("- "), "{said}");
+    for file in ["README.md", "docs/CALLS.md", "rust/src/lib.rs"] {
+        assert_eq!(limits(&text(file)), said, "{file}");
+    }
 }

@@ -1,6 +1,9 @@
-//! `examples/receiver.c` from outside: compiled as a receiver maker would, run, and its picture judged by the second
-//! program.
+//! `examples/receiver.c` from outside: compiled as a receiver maker would, as C and as C++, run, and its picture judged by
+//! the second program.
 
+mod outside;
+
+use outside::{documented, file, program, run, written};
 use second::{Answer, Call, CtuSet, Picture, State, Value, World, apply, filter_picture, table};
 use std::ffi::OsString;
 use std::mem::offset_of;
@@ -8,87 +11,75 @@ use std::path::{Path, PathBuf};
 use std::process::Command;
 use steamgusset::ffi;
 
-const PROJECT: &str = concat!(env!("CARGO_MANIFEST_DIR"), "/..");
 const WARNINGS: [&str; 4] = ["-Wall", "-Wextra", "-Wpedantic", "-Werror"];
 
-/// The compiler that the environment names, or the usual one; nothing, with a line that says so, where it is not found.
-fn compiler(variable: &str, usual: &str) -> Option<OsString> {
-    let name = std::env::var_os(variable).filter(|name| !name.is_empty()).unwrap_or_else(|| usual.into());
-    let found = Command::new(&name).arg("--version").output().is_ok_and(|output| output.status.success());
-    if !found {
-        println!("not tested: no compiler {} is found", name.to_string_lossy());
-    }
-    found.then_some(name)
+/// A language: where the environment names its compiler, the usual one, what the compiler calls it, and the standards.
+const LANGUAGES: [(&str, &str, &str, &[&str]); 2] =
+    [("CC", "cc", "c", &["c99", "c11"]), ("CXX", "g++", "c++", &["c++98", "c++11", "c++17"])];
+
+/// Each language and standard for which there is a compiler.
+fn compilers() -> Vec<(OsString, &'static str, &'static str)> {
+    let found = LANGUAGES.into_iter().filter_map(|(variable, usual, language, standards)| {
+        let compiler = program(variable, usual)?;
+        Some(standards.iter().map(move |standard| (compiler.clone(), language, *standard)))
+    });
+    found.flatten().collect()
 }
 
-/// A command that has to succeed; what it prints.
-fn run(command: &mut Command) -> String {
-    let output = command.output().unwrap_or_else(|why| panic!("{command:?}: {why}"));
-    let (out, err) = (String::from_utf8_lossy(&output.stdout), String::from_utf8_lossy(&output.stderr));
-    assert!(output.status.success(), "{command:?}: {}\n{out}{err}", output.status);
-    out.into_owned()
-}
-
-fn compile(compiler: &OsString, language: &str, standard: &str) -> Command {
+fn compile(compiler: &OsString, language: &str, standard: &str, include: &Path) -> Command {
     let mut command = Command::new(compiler);
-    command.args(["-x", language]).arg(format!("-std={standard}")).args(WARNINGS).arg("-I").arg(include());
+    command.args(["-x", language]).arg(format!("-std={standard}")).args(WARNINGS).arg("-I").arg(include);
     command
-}
-
-fn include() -> PathBuf {
-    Path::new(PROJECT).join("include")
 }
 
 #[test]
 fn the_header_compiles_as_c_and_as_cpp() {
-    let languages = [("CC", "cc", "c", &["c99", "c11"][..]), ("CXX", "g++", "c++", &["c++98", "c++11", "c++17"][..])];
-    for (variable, usual, language, standards) in languages {
-        let Some(compiler) = compiler(variable, usual) else { continue };
-        for standard in standards {
-            // Included by an empty file, as the warnings for a header differ from those for a program's own file.
-            let alone = ["-include", "steamgusset.h", "-fsyntax-only", "/dev/null"];
-            run(compile(&compiler, language, standard).args(alone));
-        }
+    for (compiler, language, standard) in compilers() {
+        // Included by an empty file, as the warnings for a header differ from those for a program's own file. A header
+        // is met by more of them than its own makers switch on.
+        let alone = ["-Wshadow", "-Wconversion", "-include", "steamgusset.h", "-fsyntax-only", "/dev/null"];
+        run(compile(&compiler, language, standard, &file("include")).args(alone));
     }
 }
 
-/// What examples/README.md says that the receiver prints.
-fn documented() -> String {
-    let file = Path::new(PROJECT).join("examples/README.md");
-    let text = std::fs::read_to_string(file).expect("the examples' README");
-    let after = text.lines().skip_while(|line| *line != "prints").skip(2);
-    after.map_while(|line| line.strip_prefix("    ")).map(|line| format!("{line}\n")).collect()
-}
-
-/// A file of these tests.
-fn written(name: &str) -> PathBuf {
-    Path::new(env!("CARGO_TARGET_TMPDIR")).join(name)
-}
-
 /// The receiver as a program of that name, linked with the archive that this package links.
-fn receiver(name: &str) -> Option<PathBuf> {
-    let (compiler, program) = (compiler("CC", "cc")?, written(name));
-    let source = Path::new(PROJECT).join("examples/receiver.c");
+fn build(mut compile: Command, name: &str) -> PathBuf {
+    let program = written(name);
     // After "-x none" the archive is taken for what it is.
     let archive = ["-x", "none", env!("STEAMGUSSET_ARCHIVE")];
-    run(compile(&compiler, "c", "c99").arg(source).args(archive).arg("-o").arg(&program));
-    Some(program)
+    run(compile.arg(file("examples/receiver.c")).args(archive).arg("-o").arg(&program));
+    program
+}
+
+/// The receiver in C, with the header of a folder.
+fn receiver(name: &str, include: &Path) -> Option<PathBuf> {
+    let compiler = program("CC", "cc")?;
+    Some(build(compile(&compiler, "c", "c99", include), name))
 }
 
 #[test]
 fn the_receiver_gives_the_picture_that_the_second_program_gives() {
-    let Some(program) = receiver("receiver") else { return };
-    let file = written("receiver.picture");
-    let printed = run(Command::new(program).arg(&file));
-    assert_eq!(printed, documented());
-    let saved = Saved::parse(&std::fs::read(&file).expect("the file that the receiver wrote"));
+    for (compiler, language, standard) in compilers() {
+        let program = build(compile(&compiler, language, standard, &file("include")), &format!("receiver-{standard}"));
+        let picture = written(&format!("receiver-{standard}.picture"));
+        let printed = run(Command::new(program).arg(&picture));
+        assert_eq!(printed, documented(), "{standard}");
+        judge(&printed, &std::fs::read(&picture).expect("the file that the receiver wrote"));
+    }
+}
 
+/// Holds what the receiver wrote, and printed of it, to the second program.
+fn judge(printed: &str, picture: &[u8]) {
+    let saved = Saved::parse(picture);
     let whole = filter_picture(&saved.picture, &saved.sets(), saved.deblocked.each_ref().map(Vec::as_slice));
     assert!(whole == saved.finished, "the receiver's picture differs");
+    // A CTB row of a component is finished once.
+    let ctb_rows = saved.picture.height.div_ceil(saved.picture.ctb) as usize;
     let expected = [
         ("sets", saved.picture.ctus().to_string()),
         ("bins", saved.bins().to_string()),
         ("blocks", saved.picture.marks().to_string()),
+        ("asked for finished rows", (saved.picture.marks() / saved.picture.ctus() * ctb_rows).to_string()),
         ("changed samples", saved.changed(&whole).to_string()),
         ("checksum", format!("{:016x}", checksum(&whole))),
         ("refused 4", "the declared count exceeds 8 times the bytes given; nothing changed".into()),
@@ -100,15 +91,46 @@ fn the_receiver_gives_the_picture_that_the_second_program_gives() {
     }
 }
 
+/// Its status, and what it prints where errors are told.
+fn told(program: &Path, words: &[&str]) -> (Option<i32>, String) {
+    let output = Command::new(program).args(words).output().expect("the receiver, run");
+    (output.status.code(), String::from_utf8_lossy(&output.stderr).into_owned())
+}
+
 #[test]
 fn the_receiver_says_what_is_wrong_with_its_words() {
-    let Some(program) = receiver("receiver-refusing") else { return };
-    for (words, status, sentence) in [
-        (&["/"][..], 1, "receiver: /: it cannot be opened for writing\n"),
-        (&["one", "two"][..], 2, "usage: receiver [FILE]\n"),
-    ] {
-        let output = Command::new(&program).args(words).output().expect("the receiver, run");
-        assert_eq!((output.status.code(), output.stderr.as_slice()), (Some(status), sentence.as_bytes()));
+    let Some(program) = receiver("receiver-refusing", &file("include")) else { return };
+    let unopened = "receiver: /: it cannot be opened for writing\n".to_string();
+    assert_eq!(told(&program, &["/"]), (Some(1), unopened));
+    assert_eq!(told(&program, &["one", "two"]), (Some(2), "usage: receiver [FILE]\n".into()));
+    let full = std::fs::OpenOptions::new().write(true).open("/dev/full").expect("a file that takes nothing");
+    let output = Command::new(&program).stdout(full).output().expect("the receiver, run");
+    let unwritten = b"receiver: standard output: it cannot be written\n";
+    assert_eq!((output.status.code(), output.stderr.as_slice()), (Some(1), unwritten.as_slice()));
+}
+
+/// A folder with the header as it would be if a number of its version were another.
+fn header_with(part: &str, number: u32, another: u32) -> PathBuf {
+    let text = std::fs::read_to_string(file("include/steamgusset.h")).expect("the header");
+    let line = |number| format!("#define SG_VERSION_{part} {number}\n");
+    assert!(text.contains(&line(number)), "{part}");
+    let folder = written(&format!("header-{part}-{another}"));
+    std::fs::create_dir_all(&folder).expect("a folder");
+    std::fs::write(folder.join("steamgusset.h"), text.replace(&line(number), &line(another))).expect("a header");
+    folder
+}
+
+#[test]
+fn a_header_of_another_version_is_found_out() {
+    let [major, minor] = [env!("CARGO_PKG_VERSION_MAJOR"), env!("CARGO_PKG_VERSION_MINOR")]
+        .map(|number| number.parse::<u32>().expect("a number"));
+    for (part, number, another) in
+        [("MAJOR", major, major + 1), ("MAJOR", major, major - 1), ("MINOR", minor, minor + 1)]
+    {
+        let header = header_with(part, number, another);
+        let Some(program) = receiver(&format!("receiver-{part}-{another}"), &header) else { return };
+        let sentence = "receiver: libsteamgusset.a: it is another version's than steamgusset.h\n".to_string();
+        assert_eq!(told(&program, &[]), (Some(1), sentence), "{part} {another}");
     }
 }
 

@@ -2,7 +2,8 @@
 //! as numbers.
 
 use steamgusset::{
-    BINS_BYTES, Block, CtuSet, Lent, Offsets, Picture, Refusal, Rows, SET_BYTES, Sizes, Stage, State, calls,
+    BINS_BYTES, Block, Buffers, CtuSet, Lent, Memory, Offsets, Picture, Plane, Refusal, Refused, Rows, SET_BYTES,
+    Sizes, Stage, State, calls,
 };
 
 /// Nine CTUs, those on the right and below cut short.
@@ -69,7 +70,7 @@ fn backwards(picture: Picture) -> Vec<Event> {
     forwards(picture).into_iter().rev().collect()
 }
 
-fn hand_in(stage: &mut Stage, event: Event) -> Outcome {
+fn hand_in<B: Memory>(stage: &mut Stage<B>, event: Event) -> Outcome {
     match event {
         Event::NextSet => {
             let set = set(stage.picture(), stage.next_ctu());
@@ -82,7 +83,7 @@ fn hand_in(stage: &mut Stage, event: Event) -> Outcome {
     }
 }
 
-fn filter_what_is_ready(stage: &mut Stage) -> Outcome {
+fn filter_what_is_ready<B: Memory>(stage: &mut Stage<B>) -> Outcome {
     for (component, ctb) in ctbs(stage.picture()) {
         match stage.filter(component, ctb) {
             Ok(()) | Err(Refusal::NotReady | Refusal::FilteredBefore) => {}
@@ -92,7 +93,7 @@ fn filter_what_is_ready(stage: &mut Stage) -> Outcome {
     Ok(())
 }
 
-fn run(stage: &mut Stage, events: &[Event]) -> Outcome {
+fn run<B: Memory>(stage: &mut Stage<B>, events: &[Event]) -> Outcome {
     for &event in events {
         hand_in(stage, event)?;
         filter_what_is_ready(stage)?;
@@ -100,37 +101,19 @@ fn run(stage: &mut Stage, events: &[Event]) -> Outcome {
     Ok(())
 }
 
-fn is_finished(stage: &Stage) -> bool {
+fn is_finished<B: Memory>(stage: &Stage<B>) -> bool {
     let finished = |component| stage.finished_count(component) == Ok(stage.sizes().height[component as usize]);
     (0..stage.picture().components()).all(finished)
 }
 
-/// Buffers to lend, filled with what no call leaves.
-#[derive(Clone, Debug, PartialEq, Eq)]
-struct Buffers {
-    deblocked: [Vec<u16>; 3],
-    filtered: [Vec<u16>; 3],
-    marks: Vec<u8>,
-    table: Vec<u8>,
-}
-
-impl Buffers {
-    fn of(sizes: &Sizes) -> Buffers {
-        Buffers {
-            deblocked: sizes.samples.map(|length| vec![0xAAAA; length]),
-            filtered: sizes.samples.map(|length| vec![0xBBBB; length]),
-            marks: vec![0xCC; sizes.marks],
-            table: vec![0xDD; sizes.table],
-        }
-    }
-
-    fn lent(&mut self) -> Lent<'_> {
-        Lent {
-            deblocked: self.deblocked.each_mut().map(Vec::as_mut_slice),
-            filtered: self.filtered.each_mut().map(Vec::as_mut_slice),
-            marks: &mut self.marks,
-            table: &mut self.table,
-        }
+/// Buffers filled with what no call leaves.
+fn filled(sizes: &Sizes) -> Buffers {
+    let planes = |sample| sizes.samples.map(|length| Plane::from(vec![sample; length]));
+    Buffers {
+        deblocked: planes(0xAAAA),
+        filtered: planes(0xBBBB),
+        marks: vec![0xCC; sizes.marks],
+        table: vec![0xDD; sizes.table],
     }
 }
 
@@ -141,14 +124,14 @@ fn owned_or_lent_and_in_either_order_the_planes_are_the_same() -> Outcome {
         run(&mut owned, &forwards(picture))?;
         assert!(is_finished(&owned));
 
-        let mut buffers = Buffers::of(&picture.sizes()?);
-        let mut lent = Stage::open_lent(picture, buffers.lent())?;
+        let mut buffers = filled(&picture.sizes()?);
+        let mut lent = Stage::open_lent(picture, buffers.lend())?;
         run(&mut lent, &backwards(picture))?;
         assert!(is_finished(&lent));
 
         for (component, place) in [(0, 0), (1, 1), (2, 2)] {
-            assert_eq!(owned.deblocked(component), buffers.deblocked[place]);
-            assert_eq!(owned.filtered(component), buffers.filtered[place]);
+            assert_eq!(owned.deblocked(component), &*buffers.deblocked[place]);
+            assert_eq!(owned.filtered(component), &*buffers.filtered[place]);
             // its own planes begin with a cache line
             assert_eq!(
                 [owned.deblocked(component), owned.filtered(component)].map(|plane| plane.as_ptr().addr() % 64),
@@ -184,7 +167,7 @@ fn a_stage_is_opened_again_for_the_next_picture() -> Outcome {
     let mut stage = Stage::open(NINE)?;
     run(&mut stage, &forwards(NINE))?;
     let first = stage.filtered(0).to_vec();
-    stage.reopen()?;
+    stage.reopen();
     assert_eq!((stage.next_ctu(), stage.finished_count(0)?), (0, 0));
     run(&mut stage, &backwards(NINE))?;
     assert_eq!(stage.filtered(0), first);
@@ -202,6 +185,113 @@ fn the_finished_rows_lead_the_plane() -> Outcome {
     assert_eq!([0, 1, 2].map(|component| stage.finished_count(component)), [Ok(40), Ok(20), Ok(8)]);
     assert_eq!(stage.finished_rows(1)?, stage.filtered(1));
     assert_eq!(stage.finished_rows(2)?, &stage.filtered(2)[..8 * 20]);
+    Ok(())
+}
+
+// Buffers in and out.
+
+/// Where each buffer lies.
+fn places(buffers: &Buffers) -> [usize; 8] {
+    let [y, cb, cr] = buffers.deblocked.each_ref().map(|plane| plane.as_ptr().addr());
+    let [out_y, out_cb, out_cr] = buffers.filtered.each_ref().map(|plane| plane.as_ptr().addr());
+    [y, cb, cr, out_y, out_cb, out_cr, buffers.marks.as_ptr().addr(), buffers.table.as_ptr().addr()]
+}
+
+#[test]
+fn buffers_are_moved_in_and_out() -> Outcome {
+    for mut buffers in [filled(&NINE.sizes()?), Buffers::zeros(&NINE.sizes()?)] {
+        let places_before = places(&buffers);
+        // What is in them does not matter, that of an earlier picture least of all.
+        for events in [forwards(NINE), backwards(NINE)] {
+            let mut stage = Stage::open_in(NINE, buffers)?;
+            assert_eq!((stage.next_ctu(), stage.finished_count(0)?), (0, 0));
+            run(&mut stage, &events)?;
+            assert!(is_finished(&stage));
+            buffers = stage.into_buffers();
+        }
+        assert_eq!(places(&buffers), places_before);
+        let mut stage = Stage::open(NINE)?;
+        run(&mut stage, &forwards(NINE))?;
+        assert!(stage.into_buffers() == buffers, "the buffers hold another picture");
+    }
+    Ok(())
+}
+
+/// Finished planes go, others take their place.
+#[test]
+fn finished_planes_are_kept_while_the_next_picture_is_under_way() -> Outcome {
+    let mut stage = Stage::open(FOUR)?;
+    run(&mut stage, &forwards(FOUR))?;
+    let buffers = stage.into_buffers();
+    let finished = buffers.filtered;
+    let unused = FOUR.sizes()?.samples.map(Plane::zeros);
+    let mut next = Stage::open_in(FOUR, Buffers { filtered: unused, ..buffers })?;
+    run(&mut next, &backwards(FOUR))?;
+    assert!(next.into_buffers().filtered == finished);
+    Ok(())
+}
+
+#[test]
+fn lent_buffers_come_out_as_they_were_lent() -> Outcome {
+    let mut buffers = filled(&FOUR.sizes()?);
+    let before = places(&buffers);
+    let stage = Stage::open_lent(FOUR, buffers.lend())?;
+    // Another description may have the same lengths.
+    let lent: Lent = stage.into_buffers();
+    let mut stage = Stage::open_lent(Picture { luma: false, chroma: false, ..FOUR }, lent)?;
+    assert_eq!(stage.read(&[], 0), Ok(CtuSet::OFF));
+    assert_eq!(places(&buffers), before);
+    Ok(())
+}
+
+#[test]
+fn a_plane_is_a_slice_that_begins_with_a_cache_line() {
+    for length in [0, 1, 31, 32, 33, 4096] {
+        let zeros = Plane::zeros(length);
+        assert_eq!((zeros.to_vec(), zeros.as_ptr().addr() % 64), (vec![0; length], 0));
+
+        // A vector's samples stay where they are, on the way in and on the way out.
+        let samples: Vec<u16> = (1..).take(length).collect();
+        let (place, expected) = (samples.as_ptr(), samples.clone());
+        let plane = Plane::from(samples);
+        let copy = plane.clone();
+        assert_eq!((copy == plane, copy.as_ptr().addr() % 64), (true, 0));
+        assert_eq!(plane == zeros, length == 0);
+        let samples = Vec::from(plane);
+        assert_eq!((samples.as_ptr(), &samples), (place, &expected));
+        assert_eq!(Vec::from(copy), expected);
+    }
+    assert_eq!(Plane::default().len(), 0);
+    assert_eq!(format!("{:?}", Plane::zeros(960)), "Plane { len: 960, .. }");
+}
+
+// Threads.
+
+/// Compiles for what may be handed to another thread, and looked at by several.
+fn goes_to_threads<T: Send + Sync>() {}
+
+#[test]
+fn stages_and_buffers_go_to_threads() {
+    goes_to_threads::<(Stage<Lent<'_>>, Lent<'_>)>();
+    goes_to_threads::<(Stage, Buffers, Plane, Refused)>();
+    goes_to_threads::<(Picture, State, Sizes, Block, Rows, CtuSet, Refusal)>();
+}
+
+#[test]
+fn several_threads_look_at_one_picture() -> Outcome {
+    let mut buffers = filled(&FOUR.sizes()?);
+    let mut stage = Stage::open_lent(FOUR, buffers.lend())?;
+    run(&mut stage, &forwards(FOUR))?;
+    let counts = std::thread::scope(|scope| {
+        let ask = |component| {
+            scope.spawn({
+                let stage = &stage;
+                move || stage.finished_count(component)
+            })
+        };
+        [0, 1, 2].map(ask).map(|thread| thread.join().unwrap_or(Err(Refusal::Stored)))
+    });
+    assert_eq!(counts, [Ok(32), Ok(16), Ok(16)]);
     Ok(())
 }
 
@@ -229,34 +319,39 @@ fn opening_is_refused() {
         assert_eq!(Stage::open(picture).err(), Some(Refusal::Description));
         assert_eq!(picture.block(3, 0), Err(Refusal::Description));
         // The description is judged before any length.
-        let mut buffers = Buffers::of(&Sizes::default());
-        assert_eq!(Stage::open_lent(picture, buffers.lent()).err(), Some(Refusal::Description));
+        let mut buffers = filled(&Sizes::default());
+        assert_eq!(Stage::open_lent(picture, buffers.lend()).err(), Some(Refusal::Description));
+        let refused = Stage::open_in(picture, buffers.clone()).err();
+        assert_eq!(refused, Some(Refused { refusal: Refusal::Description, buffers: buffers.into() }));
     }
 }
 
 #[test]
 fn every_lent_buffer_must_have_its_length() -> Outcome {
     let damages: [fn(&mut Buffers); 6] = [
-        |buffers| buffers.deblocked[0].truncate(7),
-        |buffers| buffers.deblocked[2].push(0),
-        |buffers| buffers.filtered[0].push(0),
-        |buffers| buffers.filtered[1].clear(),
+        |buffers| buffers.deblocked[0] = Plane::zeros(7),
+        |buffers| buffers.deblocked[2] = Plane::zeros(401),
+        |buffers| buffers.filtered[0] = Plane::zeros(1601),
+        |buffers| buffers.filtered[1] = Plane::default(),
         |buffers| buffers.marks.truncate(26),
         |buffers| buffers.table.push(0),
     ];
     for damage in damages {
-        let mut buffers = Buffers::of(&NINE.sizes()?);
+        let mut buffers = filled(&NINE.sizes()?);
         damage(&mut buffers);
         let before = buffers.clone();
-        assert_eq!(Stage::open_lent(NINE, buffers.lent()).err(), Some(Refusal::Length));
+        assert_eq!(Stage::open_lent(NINE, buffers.lend()).err(), Some(Refusal::Length));
         assert!(buffers == before, "a refused call changed a buffer");
+        let refused = Refused { refusal: Refusal::Length, buffers: before.into() };
+        assert_eq!(refused.to_string(), Refusal::Length.to_string());
+        assert_eq!(Stage::open_in(NINE, buffers).err(), Some(refused));
     }
     Ok(())
 }
 
 /// Calls that are refused when CTUs 0 and 1 have their sets and luma's blocks 0 to 5 are there, of which 0 and 1 are
 /// then filtered.
-fn refused_in_the_middle(stage: &mut Stage) {
+fn refused_in_the_middle<B: Memory>(stage: &mut Stage<B>) {
     refused_sets(stage);
     for (component, ctb) in [(3, 0), (256, 0), (u32::MAX, 0), (0, 9), (2, u32::MAX)] {
         assert_eq!(stage.block(component, ctb), Err(Refusal::NoSuchBlock));
@@ -278,7 +373,7 @@ fn refused_in_the_middle(stage: &mut Stage) {
 }
 
 /// CTU 2 has a left neighbour, and none above.
-fn refused_sets(stage: &mut Stage) {
+fn refused_sets<B: Memory>(stage: &mut Stage<B>) {
     assert_eq!(stage.read(&[0], 9), Err(Refusal::CountTooLarge));
     assert_eq!(stage.read(&[], usize::MAX), Err(Refusal::CountTooLarge));
     assert_eq!(stage.read(&[], 0), Err(Refusal::TooEarly));
@@ -301,7 +396,7 @@ fn refused_sets(stage: &mut Stage) {
 }
 
 /// What a stage shows of itself.
-fn seen(stage: &Stage) -> (u32, Vec<Vec<u16>>, Vec<Result<usize, Refusal>>) {
+fn seen<B: Memory>(stage: &Stage<B>) -> (u32, Vec<Vec<u16>>, Vec<Result<usize, Refusal>>) {
     let planes = (0..3).flat_map(|component| [stage.deblocked(component), stage.filtered(component)]);
     let counts = (0..3).map(|component| stage.finished_count(component));
     (stage.next_ctu(), planes.map(<[u16]>::to_vec).collect(), counts.collect())
@@ -309,7 +404,7 @@ fn seen(stage: &Stage) -> (u32, Vec<Vec<u16>>, Vec<Result<usize, Refusal>>) {
 
 /// A whole picture on these buffers, with or without refused calls among the accepted ones.
 fn whole_picture(buffers: &mut Buffers, with_refused: bool) -> Outcome {
-    let mut stage = Stage::open_lent(NINE, buffers.lent())?;
+    let mut stage = Stage::open_lent(NINE, buffers.lend())?;
     let (sets, blocks) = (sets_in_order(NINE), blocks_in_order(NINE));
     run(&mut stage, &[&sets[..2], &blocks[..6]].concat())?;
     if with_refused {
@@ -327,7 +422,7 @@ fn whole_picture(buffers: &mut Buffers, with_refused: bool) -> Outcome {
 
 #[test]
 fn a_refused_call_changes_nothing() -> Outcome {
-    let mut with_refused = Buffers::of(&NINE.sizes()?);
+    let mut with_refused = filled(&NINE.sizes()?);
     let mut without = with_refused.clone();
     whole_picture(&mut with_refused, true)?;
     whole_picture(&mut without, false)?;
@@ -339,8 +434,8 @@ fn a_refused_call_changes_nothing() -> Outcome {
 #[test]
 fn damaged_buffers_are_refused() -> Outcome {
     let sizes = MONOCHROME.sizes()?;
-    let Buffers { mut deblocked, filtered, mut marks, mut table } = Buffers::of(&sizes);
-    let filtered = filtered.each_ref().map(Vec::as_slice);
+    let Buffers { mut deblocked, filtered, mut marks, mut table } = filled(&sizes);
+    let filtered = filtered.each_ref().map(|plane| &**plane);
     let mut state = MONOCHROME.state();
     calls::open(&mut state, &mut marks)?;
     assert_eq!(calls::finished_rows(&state, 0, filtered, &marks), Ok(Rows { rows: 0, samples: 0 }));
@@ -348,18 +443,26 @@ fn damaged_buffers_are_refused() -> Outcome {
     let mut ahead = State { next: 10, ..state };
     assert_eq!(calls::read(&mut ahead, &[0], 1, &mut table), Err(Refusal::Stored));
     assert_eq!(calls::write(&mut ahead, &CtuSet::OFF, &mut [0], &mut table), Err(Refusal::Stored));
-    assert_eq!((ahead, table), (State { next: 10, ..state }, Buffers::of(&sizes).table));
+    assert_eq!((ahead, table), (State { next: 10, ..state }, filled(&sizes).table));
 
     marks[8] = 3;
-    let planes = deblocked.each_mut().map(Vec::as_mut_slice);
+    let planes = deblocked.each_mut().map(|plane| &mut **plane);
     assert_eq!(calls::deliver(&state, 0, 8, &[0; 64], planes, &mut marks), Err(Refusal::Stored));
     assert_eq!(calls::finished_rows(&state, 0, filtered, &marks), Err(Refusal::Stored));
-    assert_eq!(deblocked, Buffers::of(&sizes).deblocked);
+    assert_eq!(deblocked, filled(&sizes).deblocked);
 
     // A state may hold numbers that no description has.
     assert_eq!(calls::sizes(&State { format: 256, ..state }), Err(Refusal::Description));
     assert_eq!(calls::sizes(&State { luma: 2, ..state }), Err(Refusal::Description));
     Ok(())
+}
+
+#[test]
+fn the_linked_stage_has_the_packages_version() {
+    let (major, minor) = steamgusset::version();
+    assert_eq!(steamgusset::ffi::sg_version(), major * 65536 + minor);
+    assert_eq!(format!("{major}.{minor}.{}", env!("CARGO_PKG_VERSION_PATCH")), env!("CARGO_PKG_VERSION"));
+    assert_eq!(steamgusset::VERSION, (major, minor));
 }
 
 #[test]
@@ -414,7 +517,7 @@ fn uniform_set(luma: usize, chroma: usize, magnitude: i8) -> CtuSet {
 }
 
 /// A stage whose next CTU has both neighbours, with sets that are off.
-fn last_of_four(depth: u8) -> Result<Stage<'static>, Refusal> {
+fn last_of_four(depth: u8) -> Result<Stage, Refusal> {
     let mut stage = Stage::open(Picture { depth, ..FOUR })?;
     for _ in 0..3 {
         stage.write(&CtuSet::OFF, &mut [0])?;

@@ -1,20 +1,22 @@
 //! The command of the second program.
 //!
 //! A subcommand is a line of [`COMMANDS`]: its name, what it is given, and the function that does it. A mistake is one
-//! sentence on the error stream; the exit status is 2 for the command line and 1 for anything in the files.
+//! sentence on the error stream; the exit status is 2 for the command line and 1 for anything in the files. A picture
+//! that document 01 does not cover is no mistake.
 
 use second::replay::{Tally, through_the_stage};
 use second::stored::bytes;
 use second::stored_runs;
-use second::vectors::Vector;
+use second::vectors::{Fault, Header, Vector};
 use second::{Picture, filter_picture};
-use std::io::{self, Write};
+use std::fs::File;
+use std::io::{self, BufReader, Write};
 use std::process::ExitCode;
 
 struct Command {
     name: &'static str,
     given: &'static str,
-    run: fn(&[String], &mut dyn Write) -> Result<(), Mistake>,
+    run: fn(&[String], &mut dyn Write) -> Result<ExitCode, Mistake>,
 }
 
 const COMMANDS: [Command; 2] = [
@@ -30,17 +32,25 @@ enum Mistake {
 fn main() -> ExitCode {
     let arguments: Vec<String> = std::env::args_os().skip(1).map(|word| word.to_string_lossy().into_owned()).collect();
     let (sentence, status) = match run(&arguments, &mut io::stdout().lock()) {
-        Ok(()) => return ExitCode::SUCCESS,
+        Ok(status) => return status,
         Err(Mistake::CommandLine(sentence)) => (sentence, 2),
         Err(Mistake::File(sentence)) => (sentence, 1),
     };
-    // If even the error stream is closed, the status still tells.
-    let _ = writeln!(io::stderr(), "second: {sentence}");
+    say(&sentence);
     ExitCode::from(status)
 }
 
-fn run(arguments: &[String], out: &mut dyn Write) -> Result<(), Mistake> {
+/// A sentence on the error stream. If even that is closed, the status still tells.
+fn say(sentence: &str) {
+    let _ = writeln!(io::stderr(), "second: {sentence}");
+}
+
+fn run(arguments: &[String], out: &mut dyn Write) -> Result<ExitCode, Mistake> {
     let (name, rest) = arguments.split_first().ok_or_else(|| Mistake::CommandLine(usage()))?;
+    if name == "--help" {
+        writeln!(out, "{}", usage()).map_err(not_written)?;
+        return Ok(ExitCode::SUCCESS);
+    }
     let command = COMMANDS.iter().find(|command| command.name == name);
     let command = command.ok_or_else(|| Mistake::CommandLine(format!("no subcommand {name}; {}", usage())))?;
     (command.run)(rest, out)
@@ -51,58 +61,109 @@ fn usage() -> String {
     format!("usage: {}", lines.join(" or "))
 }
 
-/// Puts each file's picture through the stage and prints how it compares with the file's final planes.
-fn vectors(files: &[String], out: &mut dyn Write) -> Result<(), Mistake> {
+/// What became of a file.
+#[derive(Clone, Copy, PartialEq, Eq)]
+enum Outcome {
+    Agrees,
+    Differs,
+    NotCovered,
+    Damaged,
+    CannotBeRead,
+}
+
+const OUTCOMES: [(Outcome, &str); 5] = [
+    (Outcome::Agrees, "agree"),
+    (Outcome::Differs, "differ"),
+    (Outcome::NotCovered, "not covered"),
+    (Outcome::Damaged, "damaged"),
+    (Outcome::CannotBeRead, "cannot be read"),
+];
+
+/// Puts each file's picture through the stage, prints how it compares with the file's final planes, and counts.
+fn vectors(files: &[String], out: &mut dyn Write) -> Result<ExitCode, Mistake> {
     if files.is_empty() {
         return Err(Mistake::CommandLine(format!("no file named; {}", usage())));
     }
-    let mut differing = 0;
+    let mut outcomes = Vec::new();
     for file in files {
-        let (line, agrees) = judged(file).map_err(|why| Mistake::File(format!("{file}: {why}")))?;
-        differing += usize::from(!agrees);
-        writeln!(out, "{line}").map_err(not_written)?;
+        let (outcome, line) = judged(file);
+        match outcome {
+            Outcome::Damaged | Outcome::CannotBeRead => say(&format!("{file}: {line}")),
+            _ => writeln!(out, "{}: {line}", name(file)).map_err(not_written)?,
+        }
+        outcomes.push(outcome);
     }
-    match differing {
-        0 => Ok(()),
-        _ => Err(Mistake::File(format!("{differing} of {} files differ", files.len()))),
-    }
+    let count = |outcome: Outcome| outcomes.iter().filter(|other| **other == outcome).count();
+    let counts = OUTCOMES.map(|(outcome, named)| format!("{} {named}", count(outcome)));
+    writeln!(out, "{}", counts.join(", ")).and_then(|()| out.flush()).map_err(not_written)?;
+    let fine = count(Outcome::Agrees) + count(Outcome::NotCovered) == files.len();
+    Ok(if fine { ExitCode::SUCCESS } else { ExitCode::from(1) })
 }
 
 /// Writes what a proved program is run on, or what it must write.
-fn stored(names: &[String], out: &mut dyn Write) -> Result<(), Mistake> {
+fn stored(names: &[String], out: &mut dyn Write) -> Result<ExitCode, Mistake> {
     let found = match names {
         [program, file] => bytes(program, file).or_else(|| stored_runs::bytes(program, file)),
         _ => None,
     };
     let found = found.ok_or_else(|| Mistake::CommandLine(format!("no such stored file; {}", usage())))?;
-    out.write_all(&found).and_then(|()| out.flush()).map_err(not_written)
+    out.write_all(&found).and_then(|()| out.flush()).map_err(not_written)?;
+    Ok(ExitCode::SUCCESS)
 }
 
 fn not_written(why: io::Error) -> Mistake {
     Mistake::File(format!("the output cannot be written: {why}"))
 }
 
-fn judged(file: &str) -> Result<(String, bool), String> {
-    let bytes = std::fs::read(file).map_err(|why| why.to_string())?;
-    let vector = Vector::parse(&bytes)?;
-    if let Some(why) = vector.outside_base() {
-        return Err(format!("document 01 does not cover the picture: {why}"));
+/// What became of a file, and its line or sentence.
+fn judged(file: &str) -> (Outcome, String) {
+    match covered(file) {
+        Ok(Ok(vector)) => compared(&vector).unwrap_or_else(|why| (Outcome::Damaged, why)),
+        Ok(Err(why)) => (Outcome::NotCovered, format!("document 01 does not cover the picture: {why}")),
+        Err(fault @ Fault::Damaged(_)) => (Outcome::Damaged, fault.to_string()),
+        Err(fault @ Fault::CannotBeRead(_)) => (Outcome::CannotBeRead, fault.to_string()),
     }
+}
+
+/// The vector of a file, or why document 01 does not cover its picture.
+fn covered(file: &str) -> Result<Result<Vector, String>, Fault> {
+    let mut file = BufReader::new(File::open(file)?);
+    let header = Header::read(&mut file)?;
+    if let Some(why) = header.too_large() {
+        return has_its_length(file.get_ref(), &header).map(|()| Err(why));
+    }
+    let vector = Vector::read(header, &mut file)?;
+    Ok(vector.outside_base().map_or(Ok(vector), Err))
+}
+
+/// Judges a file by its length alone, where the system knows it.
+fn has_its_length(file: &File, header: &Header) -> Result<(), Fault> {
+    let (known, right) = (file.metadata()?, header.file_bytes());
+    if known.is_file() && known.len() != right {
+        return Err(Fault::Damaged(format!("the file has {} bytes, where its header announces {right}", known.len())));
+    }
+    Ok(())
+}
+
+/// A picture through the stage and at once. Sets that the stage refuses are damage.
+fn compared(vector: &Vector) -> Result<(Outcome, String), String> {
     let (picture, sets) = (vector.picture(), vector.sets());
     let (filtered, tally) = through_the_stage(&picture, &sets, &vector.deblocked, 1)?;
     let whole = filter_picture(&picture, &sets, vector.deblocked.each_ref().map(Vec::as_slice));
     let agrees = filtered == vector.filtered && whole == vector.filtered;
-    Ok((line(file, &picture, &tally, agrees), agrees))
+    let (outcome, verdict) = if agrees { (Outcome::Agrees, "agrees") } else { (Outcome::Differs, "differs") };
+    Ok((outcome, format!("{}: {verdict}", line(&picture, &tally))))
 }
 
-fn line(file: &str, picture: &Picture, tally: &Tally, agrees: bool) -> String {
-    let name = std::path::Path::new(file).file_name().unwrap_or_default().to_string_lossy();
+fn name(file: &str) -> String {
+    std::path::Path::new(file).file_name().unwrap_or_default().to_string_lossy().into_owned()
+}
+
+fn line(picture: &Picture, tally: &Tally) -> String {
     let Picture { width, height, ctb, depth, .. } = picture;
     let format = if picture.format == 0 { "monochrome" } else { "4:2:0" };
     let Tally { ctus, changed, samples, .. } = tally;
-    let verdict = if agrees { "agrees" } else { "differs" };
     format!(
-        "{name}: {width}x{height}, CTB size {ctb}, {format}, depth {depth}, CTUs {ctus}, \
-         {changed} of {samples} samples changed: {verdict}"
+        "{width}x{height}, CTB size {ctb}, {format}, depth {depth}, CTUs {ctus}, {changed} of {samples} samples changed"
     )
 }

@@ -1,13 +1,47 @@
 //! The vector files: real pictures before and after sample adaptive offset.
 //!
-//! Method: the bytes are taken part after part as the format lists them, each part checked against what the parts
-//! before it say. A damaged file gives a sentence, never a panic; nothing is made that the file has no bytes for.
+//! Method: the bytes are read part after part as the format lists them, each part checked against what the parts before
+//! it say. A damaged file gives a sentence, never a panic; nothing is made that the file has no bytes for, and nothing is
+//! read after the byte that shows a file to go on too long.
 
 use crate::picture::Picture;
 use crate::sets::{ComponentSet, CtuSet};
+use std::fmt;
+use std::io::{self, Read};
 
 const MAGIC: &[u8; 8] = b"SAOVEC1\0";
 const FIELDS: usize = 32;
+
+/// Document 01's largest width and height.
+const LARGEST_SIDE: usize = 8192;
+
+/// Why there is no vector.
+#[derive(Debug)]
+pub enum Fault {
+    CannotBeRead(io::Error),
+    Damaged(String),
+}
+
+impl fmt::Display for Fault {
+    fn fmt(&self, out: &mut fmt::Formatter) -> fmt::Result {
+        match self {
+            Fault::CannotBeRead(why) => write!(out, "the file cannot be read: {why}"),
+            Fault::Damaged(why) => out.write_str(why),
+        }
+    }
+}
+
+impl From<io::Error> for Fault {
+    fn from(why: io::Error) -> Fault {
+        Fault::CannotBeRead(why)
+    }
+}
+
+impl From<String> for Fault {
+    fn from(why: String) -> Fault {
+        Fault::Damaged(why)
+    }
+}
 
 /// The header's 32 numbers, by what they say. Those that no rule here needs stay in `fields`.
 #[derive(Clone, Debug, PartialEq, Eq)]
@@ -22,6 +56,9 @@ pub struct Header {
     pub min_cb_log2: u32,
     pub columns: usize,
     pub rows: usize,
+    /// log2_sao_offset_scale of luma and chroma.
+    pub scale_luma: u8,
+    pub scale_chroma: u8,
     pub pcm_loop_filter_disabled: bool,
     pub tile_columns: usize,
     pub tile_rows: usize,
@@ -30,11 +67,11 @@ pub struct Header {
     pub planes: usize,
 }
 
-/// A slice segment's six numbers, as far as the rules need them.
+/// A slice segment's six numbers.
 #[derive(Clone, Copy, Debug, PartialEq, Eq)]
 pub struct Segment {
-    pub address: i32,
-    pub slice_address: i32,
+    pub address: usize,
+    pub slice_address: usize,
     pub dependent: bool,
     pub luma: bool,
     pub chroma: bool,
@@ -45,7 +82,7 @@ pub struct Segment {
 pub struct Vector {
     pub header: Header,
     /// Tile boundaries in CTBs, columns and rows.
-    pub tiles: [Vec<i32>; 2],
+    pub tiles: [Vec<usize>; 2],
     pub segments: Vec<Segment>,
     /// Per CTU in raster order: its slice segment and its set as the file says it, merges resolved.
     pub ctus: Vec<(usize, CtuSet)>,
@@ -56,45 +93,109 @@ pub struct Vector {
 }
 
 impl Vector {
-    pub fn parse(bytes: &[u8]) -> Result<Vector, String> {
-        let mut rest = Rest(bytes);
-        if rest.take(MAGIC.len(), "mark SAOVEC1")? != MAGIC {
-            return Err("the file does not begin with the mark SAOVEC1".into());
-        }
-        let header = Header::parse(&mut rest)?;
+    /// The vector of a whole file's bytes.
+    pub fn parse(mut bytes: &[u8]) -> Result<Vector, String> {
+        let header = Header::read(&mut bytes);
+        header.and_then(|header| Vector::read(header, &mut bytes)).map_err(|fault| fault.to_string())
+    }
+
+    /// The vector of what follows its header.
+    pub fn read(header: Header, file: &mut dyn Read) -> Result<Vector, Fault> {
+        let mut rest = Rest(file);
         let tiles = [
-            boundaries(&mut rest, header.tile_columns, header.columns)?,
-            boundaries(&mut rest, header.tile_rows, header.rows)?,
+            boundaries(&mut rest, header.tile_columns, header.columns, "column")?,
+            boundaries(&mut rest, header.tile_rows, header.rows, "row")?,
         ];
-        let segments = rest.list(header.segments, Segment::parse)?;
+        let last_ctb = header.columns * header.rows - 1;
+        let segments = rest.list(header.segments, |rest| Segment::read(rest, last_ctb))?;
         let ctus = rest.list(header.columns * header.rows, |rest| ctu(rest, &header))?;
-        let blocks = |samples: usize| samples.div_ceil(1 << header.min_cb_log2);
-        let skip = rest.take(blocks(header.width) * blocks(header.height), "skip map")?.to_vec();
+        let blocks = |samples: usize| samples >> header.min_cb_log2;
+        let skip = rest.take(blocks(header.width) * blocks(header.height), "skip map")?;
         let deblocked = planes(&mut rest, &header, "deblocked planes")?;
         let filtered = planes(&mut rest, &header, "final planes")?;
-        match rest.0.len() {
-            0 => Ok(Vector { header, tiles, segments, ctus, skip, deblocked, filtered }),
-            more => Err(format!("{more} bytes remain after the final planes")),
+        rest.ends()?;
+        let vector = Vector { header, tiles, segments, ctus, skip, deblocked, filtered };
+        vector.slices_hold_the_segments()?;
+        vector.segments_hold_the_ctus()?;
+        vector.skip_map_is_announced()?;
+        Ok(vector)
+    }
+
+    /// 7.4.7.1: an independent segment begins its slice; a dependent one goes on with the slice, and the flags, of the one
+    /// before it.
+    fn slices_hold_the_segments(&self) -> Result<(), String> {
+        let mut before: Option<Segment> = None;
+        for (number, segment) in self.segments.iter().enumerate() {
+            let Segment { address, slice_address, dependent, .. } = *segment;
+            let goes_on = |before: Segment| *segment == Segment { address, dependent, ..before };
+            if dependent && !before.is_some_and(goes_on) {
+                return Err(format!("slice segment {number} is dependent, but goes on with no slice before it"));
+            }
+            if !dependent && slice_address != address {
+                return Err(format!("slice segment {number} begins a slice at CTB {address}, not at {slice_address}"));
+            }
+            before = Some(*segment);
+        }
+        Ok(())
+    }
+
+    /// Walks the CTBs as they are decoded. A segment begins where its address is met, and every CTB says the segment that
+    /// began last; so segments out of order are never met.
+    fn segments_hold_the_ctus(&self) -> Result<(), String> {
+        let mut begun = 0;
+        for ctb in self.decoding_order() {
+            begun += usize::from(self.segments.get(begun).is_some_and(|next| next.address == ctb));
+            let said = self.ctus[ctb].0;
+            if said + 1 != begun {
+                return Err(format!("CTB {ctb} says slice segment {said}, where {begun} have begun"));
+            }
+        }
+        match self.segments.get(begun) {
+            None => Ok(()),
+            Some(Segment { address, .. }) => {
+                Err(format!("slice segment {begun} begins at CTB {address}, out of order"))
+            }
+        }
+    }
+
+    /// 6.5.1: the CTBs' numbers, tile after tile.
+    fn decoding_order(&self) -> Vec<usize> {
+        let [columns, rows] = &self.tiles;
+        let mut order = Vec::new();
+        for down in rows.windows(2) {
+            for across in columns.windows(2) {
+                let row = |y: usize| (across[0]..across[1]).map(move |x| y * self.header.columns + x);
+                order.extend((down[0]..down[1]).flat_map(row));
+            }
+        }
+        order
+    }
+
+    fn skip_map_is_announced(&self) -> Result<(), String> {
+        let (all, said) = (self.skip.iter().fold(0, |all, bits| all | bits), self.header.fields[23]);
+        if i32::from(all) == said {
+            Ok(())
+        } else {
+            Err(format!("the OR of the skip map is {all}, announced as {said}"))
         }
     }
 
     /// Why document 01 does not speak of such a picture, or nothing if it does.
-    pub fn outside_base(&self) -> Option<&'static str> {
-        let header = &self.header;
-        let reasons = [
-            (header.chroma_format_idc > 1, "its format is neither monochrome nor 4:2:0"),
-            (header.depth_luma != header.depth_chroma, "it has two depths"),
-            // There the 2013 rule shifts offsets and these streams do not.
-            (header.depth_luma > 10, "its depth is above 10"),
-            (header.segments > 1, "it has several slice segments"),
-            (header.tile_columns > 1 || header.tile_rows > 1, "it has several tiles"),
-            (self.keeps_a_sample(), "it has samples kept from the filter"),
-        ];
-        reasons.into_iter().find_map(|(holds, why)| holds.then_some(why))
+    pub fn outside_base(&self) -> Option<String> {
+        let slice = |segment: &Segment| segment.slice_address;
+        let several_slices = self.segments.iter().any(|segment| slice(segment) != slice(&self.segments[0]));
+        let own = || {
+            let reasons = [
+                (several_slices, "it has several slices"),
+                (self.keeps_a_sample(), "it has lossless or PCM units that keep their samples"),
+            ];
+            reasons.into_iter().find_map(|(holds, why)| holds.then(|| why.to_string()))
+        };
+        self.header.outside_base().or_else(own)
     }
 
-    /// Whether document 01 speaks of such a picture: monochrome or 4:2:0, one depth and at most 10, one slice segment,
-    /// one tile and no kept sample.
+    /// Whether document 01 speaks of such a picture: monochrome or 4:2:0, one depth, above 10 bits scaled by the 2013
+    /// rule, one slice, one tile and no kept sample.
     pub fn covered_by_base(&self) -> bool {
         self.outside_base().is_none()
     }
@@ -105,7 +206,7 @@ impl Vector {
         self.skip.iter().any(|bits| bits & kept != 0)
     }
 
-    /// The description of a picture covered by the base: its one segment's flags are the two switches.
+    /// The description of a picture covered by the base: its one slice's flags are the two switches.
     pub fn picture(&self) -> Picture {
         let header = &self.header;
         let flag = |of: fn(&Segment) -> bool| header.sao_enabled && self.segments.first().is_some_and(of);
@@ -132,41 +233,99 @@ impl Vector {
 }
 
 impl Header {
-    fn parse(rest: &mut Rest) -> Result<Header, String> {
+    /// The mark and the header that a file begins with.
+    pub fn read(file: &mut dyn Read) -> Result<Header, Fault> {
+        let mut rest = Rest(file);
+        if &rest.array::<8>("mark SAOVEC1")? != MAGIC {
+            return Err(Fault::Damaged("the file does not begin with the mark SAOVEC1".into()));
+        }
         let mut fields = [0; FIELDS];
         for field in &mut fields {
             *field = rest.number("header")?;
         }
+        Ok(Header::of(fields)?)
+    }
+
+    fn of(fields: [i32; FIELDS]) -> Result<Header, String> {
         let header = Header {
             fields,
-            width: within(fields[0], 1, 65535, "width")?,
-            height: within(fields[1], 1, 65535, "height")?,
+            width: within(fields[0], 8, 65535, "width")?,
+            height: within(fields[1], 8, 65535, "height")?,
             chroma_format_idc: within(fields[2], 0, 3, "chroma_format_idc")?,
             depth_luma: within(fields[3], 8, 16, "luma depth")?,
             depth_chroma: within(fields[4], 8, 16, "chroma depth")?,
-            ctb_log2: within(fields[5], 3, 6, "CTB size")?,
-            min_cb_log2: within(fields[6], 3, 6, "smallest coding block size")?,
-            columns: within(fields[7], 1, 65535, "number of CTB columns")?,
-            rows: within(fields[8], 1, 65535, "number of CTB rows")?,
+            ctb_log2: within(fields[5], 4, 6, "logarithm of the CTB size")?,
+            min_cb_log2: within(fields[6], 3, fields[5], "logarithm of the smallest coding block size")?,
+            columns: within(fields[7], 1, 4096, "number of CTB columns")?,
+            rows: within(fields[8], 1, 4096, "number of CTB rows")?,
+            scale_luma: within(fields[9], 0, largest_scale(fields[3]), "log2_sao_offset_scale_luma")?,
+            scale_chroma: within(fields[10], 0, largest_scale(fields[4]), "log2_sao_offset_scale_chroma")?,
             pcm_loop_filter_disabled: within::<u8>(fields[11], 0, 1, "pcm_loop_filter_disabled_flag")? == 1,
-            tile_columns: within(fields[13], 1, 65535, "number of tile columns")?,
-            tile_rows: within(fields[14], 1, 65535, "number of tile rows")?,
-            segments: within(fields[15], 1, i32::MAX, "number of slice segments")?,
+            tile_columns: within(fields[13], 1, fields[7], "number of tile columns")?,
+            tile_rows: within(fields[14], 1, fields[8], "number of tile rows")?,
+            segments: within(fields[15], 1, fields[7] * fields[8], "number of slice segments")?,
             sao_enabled: within::<u8>(fields[22], 0, 1, "sample_adaptive_offset_enabled_flag")? == 1,
             planes: if within::<u8>(fields[24], 0, 3, "ChromaArrayType")? == 0 { 1 } else { 3 },
         };
+        within::<u8>(fields[12], 0, 1, "loop_filter_across_tiles_enabled_flag")?;
+        within::<u8>(fields[23], 0, 3, "OR of the skip map")?;
+        for place in (18..22).chain(25..FIELDS) {
+            within::<u8>(fields[place], 0, 0, &format!("header's number {place}"))?;
+        }
         header.agrees_with_itself().map(|()| header)
     }
 
     fn agrees_with_itself(&self) -> Result<(), String> {
-        let side = 1 << self.ctb_log2;
-        if (self.columns, self.rows) != (self.width.div_ceil(side), self.height.div_ceil(side)) {
-            return Err("the CTB columns and rows do not fit the picture's size".into());
+        let (ctb, unit) = (1 << self.ctb_log2, 1 << self.min_cb_log2);
+        for (side, ctbs, what) in [(self.width, self.columns, "width"), (self.height, self.rows, "height")] {
+            if !side.is_multiple_of(unit) {
+                return Err(format!("the {what} is {side}, no multiple of the smallest coding block's {unit}"));
+            }
+            let right = side.div_ceil(ctb);
+            if ctbs != right {
+                return Err(format!("a {what} of {side} has {right} CTBs of {ctb}, but the header says {ctbs}"));
+            }
         }
-        if self.fields[24] != self.fields[2] && (self.fields[24], self.fields[2]) != (0, 3) {
-            return Err("ChromaArrayType does not fit chroma_format_idc".into());
+        let (format, array) = (self.fields[2], self.fields[24]);
+        if array == format || (format, array) == (3, 0) {
+            Ok(())
+        } else {
+            Err(format!("ChromaArrayType is {array}, which chroma_format_idc {format} does not give"))
         }
-        Ok(())
+    }
+
+    /// Whether the picture is larger than document 01 allows. Such a file is better not read: it may be gigabytes.
+    pub fn too_large(&self) -> Option<String> {
+        let Header { width, height, .. } = self;
+        (*width > LARGEST_SIDE || *height > LARGEST_SIDE)
+            .then(|| format!("its size is {width}x{height}, above {LARGEST_SIDE}"))
+    }
+
+    /// Why the header alone puts the picture outside document 01, or nothing.
+    fn outside_base(&self) -> Option<String> {
+        let chroma = self.planes == 3;
+        let Header { depth_luma, depth_chroma, scale_luma, scale_chroma, .. } = *self;
+        // Document 01 multiplies every offset by 2 to this power.
+        let shift = depth_luma - depth_luma.min(10);
+        let sent =
+            |scale: u8, what: &str| format!("it sends scale {scale} for {what}, where the 2013 rule has {shift}");
+        let reasons = [
+            (self.chroma_format_idc > 1, "its format is neither monochrome nor 4:2:0".to_string()),
+            (chroma && depth_luma != depth_chroma, format!("it has the depths {depth_luma} and {depth_chroma}")),
+            (scale_luma != shift, sent(scale_luma, "luma")),
+            (chroma && scale_chroma != shift, sent(scale_chroma, "chroma")),
+            (self.tile_columns > 1 || self.tile_rows > 1, "it has several tiles".to_string()),
+        ];
+        self.too_large().or_else(|| reasons.into_iter().find_map(|(holds, why)| holds.then_some(why)))
+    }
+
+    /// How many bytes the file has by what the header says.
+    pub fn file_bytes(&self) -> u64 {
+        let planes: usize = (0..3).map(|component| self.plane_samples(component)).sum();
+        let tables = 4 * (self.tile_columns + 1 + self.tile_rows + 1) + 24 * self.segments;
+        let ctus = (4 + 8 * self.planes) * self.columns * self.rows;
+        let skip = (self.width >> self.min_cb_log2) * (self.height >> self.min_cb_log2);
+        (MAGIC.len() + 4 * FIELDS + tables + ctus + skip + 2 * (2 * planes)) as u64
     }
 
     fn plane_samples(&self, component: usize) -> usize {
@@ -176,57 +335,70 @@ impl Header {
     }
 }
 
+/// The largest scale that a stream may send at a depth, from the October 2014 edition on.
+fn largest_scale(depth: i32) -> i32 {
+    (depth - 10).max(0)
+}
+
 impl Segment {
-    fn parse(rest: &mut Rest) -> Result<Segment, String> {
-        let mut number = || rest.number("slice segments");
+    fn read(rest: &mut Rest, last_ctb: usize) -> Result<Segment, Fault> {
+        let mut number = |most: usize, what: &str| -> Result<usize, Fault> {
+            Ok(within(rest.number("slice segments")?, 0, most as i32, what)?)
+        };
         Ok(Segment {
-            address: number()?,
-            slice_address: number()?,
-            dependent: number()? != 0,
-            luma: number()? != 0,
-            chroma: number()? != 0,
-            across: number()? != 0,
+            address: number(last_ctb, "slice_segment_address of a slice segment")?,
+            slice_address: number(last_ctb, "SliceAddrRs of a slice segment")?,
+            dependent: number(1, "dependent flag of a slice segment")? == 1,
+            luma: number(1, "slice_sao_luma_flag of a slice segment")? == 1,
+            chroma: number(1, "slice_sao_chroma_flag of a slice segment")? == 1,
+            across: number(1, "slice_loop_filter_across_slices_enabled_flag of a slice segment")? == 1,
         })
     }
 }
 
 /// Tile boundaries: from 0, rising, to the last CTB.
-fn boundaries(rest: &mut Rest, tiles: usize, last: usize) -> Result<Vec<i32>, String> {
-    let list = rest.list(tiles + 1, |rest| rest.number("tile boundaries"))?;
+fn boundaries(rest: &mut Rest, tiles: usize, last: usize, which: &str) -> Result<Vec<usize>, Fault> {
+    let boundary = |rest: &mut Rest| {
+        let number = rest.number("tile boundaries")?;
+        Ok(within(number, 0, last as i32, &format!("boundary of a tile {which}"))?)
+    };
+    let list = rest.list(tiles + 1, boundary)?;
     let rising = list.windows(2).all(|pair| pair[0] < pair[1]);
-    if list[0] != 0 || list[tiles] as usize != last || !rising {
-        return Err("the tile boundaries do not divide the picture".into());
+    if list[0] == 0 && list[tiles] == last && rising {
+        Ok(list)
+    } else {
+        Err(Fault::Damaged(format!("the boundaries of the tile {which}s do not rise from 0 to {last}")))
     }
-    Ok(list)
 }
 
-fn ctu(rest: &mut Rest, header: &Header) -> Result<(usize, CtuSet), String> {
+fn ctu(rest: &mut Rest, header: &Header) -> Result<(usize, CtuSet), Fault> {
     let segment = within(rest.number("sets")?, 0, header.segments as i32 - 1, "slice segment of a CTB")?;
     let mut components = [ComponentSet::Off; 3];
     for component in &mut components[..header.planes] {
-        *component = component_set(rest.take(8, "sets")?)?;
+        *component = component_set(rest.array("sets")?)?;
     }
     Ok((segment, CtuSet::of(components)))
 }
 
-fn component_set(bytes: &[u8]) -> Result<ComponentSet, String> {
+fn component_set(bytes: [u8; 8]) -> Result<ComponentSet, String> {
     let offsets = std::array::from_fn(|n| bytes[4 + n] as i8);
-    match bytes[0] {
-        0 => Ok(ComponentSet::Off),
-        1 => Ok(ComponentSet::Band { position: bytes[1], offsets }),
-        2 => Ok(ComponentSet::Edge { class: bytes[2], offsets }),
-        other => Err(format!("a CTB has type {other}, which is none of 0, 1 and 2")),
+    match (bytes[0], bytes[3]) {
+        (0, 0) => Ok(ComponentSet::Off),
+        (1, 0) => Ok(ComponentSet::Band { position: bytes[1], offsets }),
+        (2, 0) => Ok(ComponentSet::Edge { class: bytes[2], offsets }),
+        (other, 0) => Err(format!("a CTB has type {other}, which is none of 0, 1 and 2")),
+        (_, other) => Err(format!("a CTB's set has {other} where the format has 0")),
     }
 }
 
-fn planes(rest: &mut Rest, header: &Header, part: &str) -> Result<[Vec<u16>; 3], String> {
+fn planes(rest: &mut Rest, header: &Header, part: &str) -> Result<[Vec<u16>; 3], Fault> {
     let mut planes = [const { Vec::new() }; 3];
     for (component, plane) in planes.iter_mut().enumerate() {
         let bytes = rest.take(2 * header.plane_samples(component), part)?;
         *plane = bytes.chunks(2).map(|pair| u16::from_le_bytes([pair[0], pair[1]])).collect();
         let depth = if component == 0 { header.depth_luma } else { header.depth_chroma };
-        if plane.iter().any(|&sample| sample > u16::MAX >> (16 - depth)) {
-            return Err(format!("the {part} have a sample above the depth"));
+        if let Some(sample) = plane.iter().find(|&&sample| sample > u16::MAX >> (16 - depth)) {
+            return Err(Fault::Damaged(format!("the {part} have a sample of {sample}, above depth {depth}")));
         }
     }
     Ok(planes)
@@ -241,27 +413,48 @@ fn within<T: TryFrom<i32>>(number: i32, least: i32, most: i32, what: &str) -> Re
     T::try_from(number).map_err(|_| wrong())
 }
 
-/// What has not been taken yet.
-struct Rest<'a>(&'a [u8]);
+/// What has not been read yet.
+struct Rest<'a>(&'a mut dyn Read);
 
-impl<'a> Rest<'a> {
-    fn take(&mut self, bytes: usize, part: &str) -> Result<&'a [u8], String> {
-        let (taken, rest) = self.0.split_at_checked(bytes).ok_or(format!("the file ends within its {part}"))?;
-        self.0 = rest;
-        Ok(taken)
+impl Rest<'_> {
+    /// So many bytes. The room grows with what is read: a count that the file cannot hold ends with the file.
+    fn take(&mut self, count: usize, part: &str) -> Result<Vec<u8>, Fault> {
+        let mut bytes = Vec::new();
+        self.0.take(count as u64).read_to_end(&mut bytes)?;
+        if bytes.len() < count { Err(ends_within(part)) } else { Ok(bytes) }
     }
 
-    fn number(&mut self, part: &str) -> Result<i32, String> {
-        let bytes = self.take(4, part)?;
-        Ok(i32::from_le_bytes([bytes[0], bytes[1], bytes[2], bytes[3]]))
+    fn array<const N: usize>(&mut self, part: &str) -> Result<[u8; N], Fault> {
+        let mut bytes = [0; N];
+        match self.0.read_exact(&mut bytes) {
+            Err(why) if why.kind() == io::ErrorKind::UnexpectedEof => Err(ends_within(part)),
+            Err(why) => Err(why.into()),
+            Ok(()) => Ok(bytes),
+        }
     }
 
-    /// So many of the same, grown one by one: a count that the file cannot hold ends with the file.
-    fn list<T>(&mut self, count: usize, one: impl Fn(&mut Self) -> Result<T, String>) -> Result<Vec<T>, String> {
+    fn number(&mut self, part: &str) -> Result<i32, Fault> {
+        self.array(part).map(i32::from_le_bytes)
+    }
+
+    /// So many of the same, grown one by one.
+    fn list<T>(&mut self, count: usize, one: impl Fn(&mut Self) -> Result<T, Fault>) -> Result<Vec<T>, Fault> {
         let mut list = Vec::new();
         for _ in 0..count {
             list.push(one(self)?);
         }
         Ok(list)
     }
+
+    fn ends(&mut self) -> Result<(), Fault> {
+        match self.take(1, "") {
+            Ok(_) => Err(Fault::Damaged("the file goes on after its final planes".into())),
+            Err(Fault::Damaged(_)) => Ok(()),
+            Err(fault) => Err(fault),
+        }
+    }
+}
+
+fn ends_within(part: &str) -> Fault {
+    Fault::Damaged(format!("the file ends within its {part}"))
 }

@@ -6,7 +6,8 @@ use common::vector_files;
 use second::filter_picture;
 use second::random::Random;
 use second::replay::{Tally, through_the_stage};
-use second::vectors::Vector;
+use second::vectors::{Header, Vector};
+use std::io::Read;
 
 const ORDERS: u64 = 4;
 
@@ -43,7 +44,7 @@ fn every_vector_comes_out_bit_for_bit() {
     println!(
         "compared {files} files in {ORDERS} orders: {ctus} CTUs, {bins} bins, {samples} samples, {changed} changed"
     );
-    assert_eq!(files, 24);
+    assert_eq!(files, 26);
     assert!(ctus > 0 && bins > 0 && samples > 0 && changed > 0);
 }
 
@@ -69,10 +70,114 @@ fn a_damaged_file_gives_a_sentence() {
         assert!(Vector::parse(&bytes[..length]).is_err(), "cut to {length} bytes");
     }
     let longer = [bytes.as_slice(), &[0]].concat();
-    assert_eq!(Vector::parse(&longer), Err("1 bytes remain after the final planes".into()));
+    assert_eq!(Vector::parse(&longer), Err("the file goes on after its final planes".into()));
     let mut unmarked = bytes.clone();
     unmarked[6] = b'2';
     assert_eq!(Vector::parse(&unmarked), Err("the file does not begin with the mark SAOVEC1".into()));
+}
+
+/// A bundled file by its name.
+fn bundled(name: &str) -> Vec<u8> {
+    let named = |file: &std::path::PathBuf| file.file_name().is_some_and(|own| own == name);
+    std::fs::read(vector_files().into_iter().find(named).expect("a bundled vector")).expect("a readable vector")
+}
+
+fn put(bytes: &mut [u8], place: usize, number: i32) {
+    bytes[place..place + 4].copy_from_slice(&number.to_le_bytes());
+}
+
+/// With header numbers changed.
+fn with(mut bytes: Vec<u8>, numbers: &[(usize, i32)]) -> Vec<u8> {
+    numbers.iter().for_each(|(place, number)| put(&mut bytes, 8 + 4 * place, *number));
+    bytes
+}
+
+/// 72x56 in 4:2:0, twenty CTUs of 28 bytes that begin at 176, in one segment of 24 bytes before them.
+fn twenty_ctus() -> Vec<u8> {
+    bundled("x_420_8_72x56_ctu16-001.sao")
+}
+
+/// The same picture in two segments. The second begins at CTU 7 and has these five numbers more.
+fn segmented(second: [i32; 5]) -> Vec<u8> {
+    let mut bytes = with(twenty_ctus(), &[(15, 2)]);
+    (7..20).for_each(|ctu| put(&mut bytes, 176 + 28 * ctu, 1));
+    let numbers = [[7].as_slice(), &second].concat();
+    bytes.splice(176..176, numbers.iter().flat_map(|number| number.to_le_bytes()));
+    bytes
+}
+
+#[test]
+fn one_slice_may_have_several_segments() {
+    let whole = Vector::parse(&twenty_ctus()).expect("a sound file");
+    let vector = Vector::parse(&segmented([0, 1, 1, 1, 0])).expect("two segments");
+    assert!(vector.covered_by_base() && vector.picture() == whole.picture() && vector.sets() == whole.sets());
+    let slices = Vector::parse(&segmented([7, 0, 1, 1, 0])).expect("two slices");
+    assert_eq!(slices.outside_base(), Some("it has several slices".into()));
+    // Another slice than the one before it, and other flags.
+    for second in [[7, 1, 1, 1, 0], [0, 1, 1, 0, 0]] {
+        let why = "slice segment 1 is dependent, but goes on with no slice before it";
+        assert_eq!(Vector::parse(&segmented(second)), Err(why.into()));
+    }
+    let why = "slice segment 1 begins a slice at CTB 7, not at 0";
+    assert_eq!(Vector::parse(&segmented([0, 0, 1, 1, 0])), Err(why.into()));
+    let mut misplaced = segmented([0, 1, 1, 1, 0]);
+    put(&mut misplaced, 200 + 28 * 7, 0);
+    assert_eq!(Vector::parse(&misplaced), Err("CTB 7 says slice segment 0, where 2 have begun".into()));
+    let mut elsewhere = twenty_ctus();
+    put(&mut elsewhere, 152, 5);
+    put(&mut elsewhere, 156, 5);
+    assert_eq!(Vector::parse(&elsewhere), Err("CTB 0 says slice segment 0, where 0 have begun".into()));
+}
+
+#[test]
+fn above_10_bits_the_sent_scale_decides() {
+    let scaled = || bundled("s_400_12_scale-000.sao");
+    let outside = |bytes: Vec<u8>| Vector::parse(&bytes).expect("a sound file").outside_base();
+    assert_eq!(outside(scaled()), None);
+    // No chroma, so its depth and scale do not matter.
+    assert_eq!(outside(with(scaled(), &[(4, 8), (10, 0)])), None);
+    assert_eq!(outside(with(scaled(), &[(9, 0)])), Some("it sends scale 0 for luma, where the 2013 rule has 2".into()));
+    let deep = |scale: i32| with(twenty_ctus(), &[(3, 12), (4, 12), (9, 2), (10, scale)]);
+    assert_eq!(outside(deep(2)), None);
+    assert_eq!(outside(deep(1)), Some("it sends scale 1 for chroma, where the 2013 rule has 2".into()));
+    // 4:4:4 with planes coded apart has one plane in the file, as monochrome has.
+    assert_eq!(outside(with(scaled(), &[(2, 3)])), Some("its format is neither monochrome nor 4:2:0".into()));
+}
+
+#[test]
+fn a_bad_header_number_is_named() {
+    for (numbers, sentence) in [
+        (&[(0, 65536)][..], "the width is 65536, outside 8 to 65535"),
+        (&[(0, 76)], "the width is 76, no multiple of the smallest coding block's 8"),
+        (&[(6, 5)], "the logarithm of the smallest coding block size is 5, outside 3 to 4"),
+        (&[(8, 5)], "a height of 56 has 4 CTBs of 16, but the header says 5"),
+        (&[(9, 1)], "the log2_sao_offset_scale_luma is 1, outside 0 to 0"),
+        (&[(4, 11), (10, 2)], "the log2_sao_offset_scale_chroma is 2, outside 0 to 1"),
+        (&[(12, 2)], "the loop_filter_across_tiles_enabled_flag is 2, outside 0 to 1"),
+        (&[(13, 6)], "the number of tile columns is 6, outside 1 to 5"),
+        (&[(15, 21)], "the number of slice segments is 21, outside 1 to 20"),
+        (&[(19, 4)], "the header's number 19 is 4, outside 0 to 0"),
+        (&[(23, 1)], "the OR of the skip map is 0, announced as 1"),
+        (&[(24, 0)], "ChromaArrayType is 0, which chroma_format_idc 1 does not give"),
+        (&[(31, -1)], "the header's number 31 is -1, outside 0 to 0"),
+    ] {
+        assert_eq!(Vector::parse(&with(twenty_ctus(), numbers)), Err(sentence.into()));
+    }
+}
+
+#[test]
+fn no_more_is_read_than_the_header_announces() {
+    let bytes = twenty_ctus();
+    let mut endless = bytes.chain(std::io::repeat(0));
+    let header = Header::read(&mut endless).expect("a good header");
+    let fault = Vector::read(header, &mut endless).expect_err("a file without end");
+    assert_eq!(fault.to_string(), "the file goes on after its final planes");
+    // 8192x8192 announced and nothing there; more than that is outside document 01, and not read.
+    let announced = with(twenty_ctus()[..136].to_vec(), &[(0, 8192), (1, 8192), (7, 512), (8, 512)]);
+    assert_eq!(Vector::parse(&announced), Err("the file ends within its tile boundaries".into()));
+    let larger = with(announced, &[(0, 8208), (7, 513)]);
+    let header = Header::read(&mut larger.as_slice()).expect("a good header");
+    assert_eq!(header.too_large(), Some("its size is 8208x8192, above 8192".into()));
 }
 
 #[test]

@@ -1,34 +1,13 @@
--- Rows of marks: one more row without an unfiltered CTB, and that one number of finished rows is right.
-use mathlib.Core.Path.{_≡_, sym, ap, _∙_, subst}
+-- One number of finished rows is right.
+use mathlib.Core.Path.{_≡_, sym, ap, _∙_}
 use mathlib.Core.List.{List}
 use mathlib.Core.Logic.{⊎-elim}
-use Prim.Native.Nat.{ℕ, _+_, _*_, _≤_, _<_, min}
+use Prim.Native.Nat.{ℕ, _*_, _≤_, _<_, min}
 use native.Mathlib.Decide.{decLt}
 use native.Mathlib.Omega.{arith}
-use lib.ListN.{getD}
 use Rattle.standard.specs.declared.State.{State}
 use Rattle.standard.specs.Picture.{rows, ctbHeight, planeHeight}
 use Rattle.standard.specs.Calls.{FinishedRows}
-use Rattle.marks.specs.Marks.{SomeOutside}
-use Rattle.marks.proofs.Marks.{is-two}
-
--- ---- a row
-
-all-filtered : (marks : List ℕ) (from n : ℕ) → ¬ SomeOutside 2 2 marks from n → (c : ℕ) → c < n → getD marks (from + c) 0 ≡ 2
-all-filtered marks from n none c l = is-two (λ o. none (c, l, o))
-
--- rows before r, and row r
-pub one-more-row : (marks : List ℕ) (from n r : ℕ) → ((j c : ℕ) → j < r → c < n → getD marks (from + j * n + c) 0 ≡ 2)
-    → ¬ SomeOutside 2 2 marks (from + r * n) n → (j c : ℕ) → j < r + 1 → c < n → getD marks (from + j * n + c) 0 ≡ 2
-one-more-row marks from n r before none j c l m = of (decLt j r)
-  where
-    of : Dec (j < r) → getD marks (from + j * n + c) 0 ≡ 2
-    of (yes k) = before j c k m
-    of (no k) =
-        let e : r ≡ j = omega arith in
-        subst (λ (i : ℕ). getD marks (from + i * n + c) 0 ≡ 2) e (all-filtered marks (from + r * n) n none c m)
-
--- ---- one number
 
 module _ {s : State} {i : ℕ} {marks : List ℕ} where
   -- no row of the one is left out by the other

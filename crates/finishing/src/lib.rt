@@ -1,11 +1,11 @@
 // Finished rows: the leading part of the caller's own filtered plane, and the companion that answers how many rows it has.
 ghost use mathlib.Core.Path.{_≡_};
-ghost use Prim.Native.Nat.{_+_, _*_, _≤_, _<_, min};
-ghost use lib.ListN.{length, take};
-ghost use Rattle.standard.specs.Picture.{Rules, components, planeWidth, planeHeight};
-ghost use Rattle.standard.specs.Reasons.{PlanesFit, planeOf, MarksFit, marksReasons, rowsReasons};
-ghost use Rattle.standard.specs.Contracts.{Judged, RowsEnsures, PartEnsures};
-ghost use Rattle.finishing.specs.Marks.{RowsFiltered};
+ghost use Prim.Native.Nat.{_*_, _/_, _≤_, _<_, min};
+ghost use lib.ListN.{take};
+ghost use Rattle.standard.specs.Picture.{Rules, components, planeWidth, planeHeight, ctbHeight, columns, ctuCount};
+ghost use Rattle.standard.specs.Reasons.{PlanesFit, planeOf, MarksFit, marksReasons};
+ghost use Rattle.standard.specs.Calls.{FinishedRows};
+ghost use Rattle.standard.specs.Contracts.{RowsDecides, RowsEnsures, PartEnsures};
 use lent::Bytes;
 use lent::Lent;
 use lent::Planes;
@@ -16,70 +16,38 @@ use standard::RowsAnswer;
 use standard::RowsOutcome;
 use standard::State;
 
-// ---- the reasons
+// ---- the companion
 
-// The component, and its marks.
-fn component_answer(state: State, component: u8, marks: &[u8]) -> Answer
+// The sample rows of the CTB rows that the first n CTBs fill. The last CTB row may be cut short.
+fn sample_rows(p: Picture, component: u8, n: usize) -> usize
+    requires { ⌜ Rules p × (n ≤ ctuCount p) ⌝ }
+    ensures { λ r. ⌜ r ≡ min (n / columns p * ctbHeight p component) (planeHeight p component) ⌝ }
+{
+    let ctb_rows = n / geometry::columns_of(p);
+    let r = ctb_rows * geometry::ctb_height(p, component);
+    let height = geometry::plane_height(p, component);
+    if r < height { r } else { height }
+}
+
+// The component and its marks, in one pass: those before that of the first CTB that is not filtered are 2, and so only the
+// rest can have one above 2.
+fn rows_answer(state: State, component: u8, marks: &[u8]) -> RowsAnswer
     requires { ⌜ Rules (state .picture) × MarksFit (state .picture) (now marks) ⌝ }
-    ensures { λ r. ⌜ Judged (marksReasons state component (now (marks .entry))) r ⌝ }
+    ensures { λ r. ⌜ RowsDecides (marksReasons state component (now (marks .entry))) r (FinishedRows state component (now (marks .entry))) ⌝ }
 {
     let p = state.picture;
     if geometry::no_such_component(p, component) {
-        return Answer::Refused(Refusal::NoSuchBlock);
+        return RowsAnswer::Refused(Refusal::NoSuchBlock);
     }
     let from = geometry::mark_place(p, component, 0);
-    if marks::some_outside(marks, from, geometry::ctu_count(p), 0, 2) {
-        return Answer::Refused(Refusal::Stored);
+    let n = geometry::ctu_count(p);
+    let filtered = marks::leading_of_many(marks, from, n, 2, 2);
+    let rest = from + filtered;
+    let left = n - filtered;
+    if marks::some_of_many(marks, rest, left, 0, 2) {
+        return RowsAnswer::Refused(Refusal::Stored);
     }
-    Answer::Done
-}
-
-fn rows_answer(
-    state: State,
-    component: u8,
-    y: &[u16],
-    cb: &[u16],
-    cr: &[u16],
-    marks: &[u8],
-) -> Answer
-    ensures { λ r. ⌜ Judged (rowsReasons state component (record { y = now (y .entry); cb = now (cb .entry); cr = now (cr .entry) }) (now (marks .entry))) r ⌝ }
-{
-    let lent = Lent {
-        deblocked: Planes::NotLent,
-        filtered: Planes::Lengths(y.len(), cb.len(), cr.len()),
-        marks: Bytes::Length(marks.len()),
-        table: Bytes::NotLent,
-    };
-    match lent::call_answer(state, lent) {
-        Answer::Refused(r) => Answer::Refused(r),
-        Answer::Done => component_answer(state, component, marks),
-    }
-}
-
-// ---- the companion
-
-// The CTB rows, n CTBs each, before the first that has an unfiltered one.
-fn ctb_rows_filtered(marks: &[u8], from: usize, n: usize, rows: usize) -> usize
-    requires { ⌜ from + rows * n ≤ length (now marks) ⌝ }
-    ensures { λ r. ⌜ RowsFiltered (now (marks .entry)) from n rows r ⌝ }
-{
-    let mut r: usize = 0;
-    while r < rows {
-        if marks::some_outside(marks, from + r * n, n, 2, 2) {
-            return r;
-        }
-        r += 1;
-    }
-    r
-}
-
-// The last CTB row may be cut short.
-fn sample_rows(n: usize, size: usize, height: usize) -> usize
-    requires { ⌜ (n ≤ 512) × (size ≤ 64) ⌝ }
-    ensures { λ r. ⌜ r ≡ min (n * size) height ⌝ }
-{
-    let r = n * size;
-    if r < height { r } else { height }
+    RowsAnswer::Rows(sample_rows(p, component, filtered))
 }
 
 // How many sample rows are finished, or why the question is refused.
@@ -93,25 +61,21 @@ pub fn finished_count(
 ) -> RowsOutcome
     ensures { λ r. ⌜ RowsEnsures state component (record { y = now (y .entry); cb = now (cb .entry); cr = now (cr .entry) }) (now (marks .entry)) r ⌝ }
 {
-    match rows_answer(state, component, y, cb, cr, marks) {
+    let lent = Lent {
+        deblocked: Planes::NotLent,
+        filtered: Planes::Lengths(y.len(), cb.len(), cr.len()),
+        marks: Bytes::Length(marks.len()),
+        table: Bytes::NotLent,
+    };
+    match lent::call_answer(state, lent) {
         Answer::Refused(r) => RowsOutcome {
             answer: RowsAnswer::Refused(r),
             state,
         },
-        Answer::Done => {
-            let p = state.picture;
-            let from = geometry::mark_place(p, component, 0);
-            let n = ctb_rows_filtered(marks, from, geometry::columns_of(p), geometry::rows_of(p));
-            let rows = sample_rows(
-                n,
-                geometry::ctb_height(p, component),
-                geometry::plane_height(p, component),
-            );
-            RowsOutcome {
-                answer: RowsAnswer::Rows(rows),
-                state,
-            }
-        }
+        Answer::Done => RowsOutcome {
+            answer: rows_answer(state, component, marks),
+            state,
+        },
     }
 }
 

@@ -17,7 +17,7 @@ use Rattle.standard.proofs.Granted.{may-deliver, may-filter}
 use Rattle.promises.proofs.Painting.{block-unique}
 use Rattle.promises.proofs.Finishing.{rows-unique}
 use Rattle.promises.proofs.Unique.{wrote-unique}
-use Rattle.steamgusset.specs.Boundary.{numbersOf, stateOf}
+use Rattle.steamgusset.specs.Boundary.{version, numbersOf, stateOf}
 use Rattle.steamgusset.specs.Exports.{NoStateHoldsThem, Answers, ReadInto, RowsInto, OpenCrosses, ReadCrosses, WriteCrosses, DeliverCrosses, FilterCrosses, RowsCrosses, SizesCross, BlockCrosses}
 
 -- both have acted, or neither has
@@ -31,6 +31,9 @@ both a rs A B C D Same (suc m) (suc n) done before h k = (first-unique ((1 if No
 -- two that are equal to one
 one : {A : Type 0} {x y z : A} → x ≡ z → y ≡ z → x ≡ y
 one e f = e ∙ sym f
+
+pub version-once : (r t : ℕ) → r ≡ version → t ≡ version → r ≡ t
+version-once r t = one
 
 module _ (a marks : List ℕ) (r t : ℕ) (b c m n : List ℕ) where
   pub open-once : OpenCrosses a marks r b m → OpenCrosses a marks t c n → (r ≡ t) × ((b ≡ c) × (m ≡ n))

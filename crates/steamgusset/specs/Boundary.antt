@@ -1,8 +1,8 @@
--- The numbers that cross: a state, each of its numbers at the place that is named here; what a caller has to lend as fourteen, the place of a
--- block as four.
+-- The numbers that cross: the version; a state, each of its numbers at the place that is named here; what a caller has to lend as fourteen,
+-- the place of a block as four.
 use mathlib.Core.Bool.{Bool, true, false, cond}
 use mathlib.Core.List.{List, [], _∷_}
-use Prim.Native.Nat.{ℕ, zero, suc, _*_, _≤_, min}
+use Prim.Native.Nat.{ℕ, zero, suc, _+_, _*_, _≤_, min}
 use lib.Dec.{ltb}
 use lib.ListN.{getD, set, replicate}
 use Rattle.standard.specs.declared.Picture.{Picture}
@@ -11,6 +11,21 @@ use Rattle.standard.specs.declared.Rectangle.{Rectangle}
 use Rattle.standard.specs.Picture.{components, planeWidth, planeHeight, samplesOf, columns, rows, ctuCount}
 use Rattle.standard.specs.Table.{entrySize}
 use Rattle.standard.specs.Reasons.{markCount}
+
+-- ---- the version
+
+abbrev pub MAJOR : ℕ
+MAJOR = 4
+
+abbrev pub MINOR : ℕ
+MINOR = 0
+
+-- the two as one number, the major above the low 16 bits
+abbrev pub versionOf : ℕ → ℕ → ℕ
+versionOf major minor = major * 65536 + minor
+
+abbrev pub version : ℕ
+version = versionOf MAJOR MINOR
 
 -- ---- the layout of a state: the place of each number among those that cross, and how many they are
 

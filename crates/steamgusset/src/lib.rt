@@ -1,14 +1,13 @@
 // The exported interface: a function for each call, on plain memory, for C and Rust to link. Its other half is
 // include/steamgusset.h.
 //
-// The state crosses as numbers, each at the place that is named below. A set crosses as its bytes. Each function answers
-// 0, or the number of its refusal; what else it has to say it leaves in lent memory. A refusal leaves all that is lent as
-// it was.
+// The state crosses as numbers, each at the place that is named below. A set crosses as its bytes. Each call answers 0, or
+// the number of its refusal; what else it has to say it leaves in lent memory. A refusal leaves all that is lent as it was.
 ghost use Prim.Native.Nat.{_<_};
 ghost use mathlib.Core.Path.{_≡_};
 ghost use Rattle.standard.specs.Picture.{Rules};
 ghost use Rattle.standard.specs.Refusals.{Tells};
-ghost use Rattle.steamgusset.specs.Boundary.{Held, numbersOf, stateOf, inByte, widthOf, heightOf, sizesOf};
+ghost use Rattle.steamgusset.specs.Boundary.{version, Held, numbersOf, stateOf, inByte, widthOf, heightOf, sizesOf};
 ghost use Rattle.steamgusset.specs.Exports.{OpenCrosses, ReadCrosses, WriteCrosses, DeliverCrosses, FilterCrosses, RowsCrosses, SizesCross, BlockCrosses};
 use standard::Answer;
 use standard::Picture;
@@ -17,6 +16,20 @@ use standard::RowsAnswer;
 use standard::SET_BYTES;
 use standard::State;
 use standard::WriteAnswer;
+
+// ---- the version
+
+const VERSION_MAJOR: u32 = 4;
+
+const VERSION_MINOR: u32 = 0;
+
+// Of the archive, for a caller to hold its header's to: the major number above the low 16 bits, the minor in them.
+#[no_mangle]
+pub extern "C" fn sg_version() -> u32
+    ensures { λ r. ⌜ r ≡ version ⌝ }
+{
+    VERSION_MAJOR * 65536 + VERSION_MINOR
+}
 
 // ---- the layout of a state: where each number stands among those that cross, and how many they are
 
@@ -241,12 +254,12 @@ pub extern "C" fn sg_filter(
 
 // Of the finished rows, which are the caller's own, how many rows and how many samples there are.
 #[no_mangle]
-pub extern "C" fn sg_finished_rows<'a>(
+pub extern "C" fn sg_finished_rows(
     state: &[u32; NUMBERS],
     component: u32,
-    y: &'a [u16],
-    cb: &'a [u16],
-    cr: &'a [u16],
+    y: &[u16],
+    cb: &[u16],
+    cr: &[u16],
     marks: &[u8],
     finished: &mut [usize; 2],
 ) -> u32

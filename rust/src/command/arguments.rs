@@ -1,9 +1,11 @@
 //! A command line taken apart: options with and without a value, and plain words.
 //!
-//! `--name VALUE` and `--name=VALUE` are the same; after `--` every word is plain.
+//! `--name VALUE` and `--name=VALUE` are the same; after `--` every word is plain. A word that nothing takes is a
+//! mistake, and so is an option's name where another's value should be: `=` hands over even that.
 
 use super::Mistake;
 use std::ffi::{OsStr, OsString};
+use std::os::unix::ffi::OsStrExt;
 use std::str::FromStr;
 
 /// An option that a command takes: its long name, and a short one where it has one.
@@ -29,6 +31,11 @@ pub fn asks_for_help(words: &[OsString]) -> bool {
     options.into_iter().any(|word| word == "--help" || word == "-h")
 }
 
+/// A word that nothing takes.
+pub fn too_many(takes: &str, word: &OsStr) -> Mistake {
+    Mistake::CommandLine(format!("{takes}, and {} is a word too many", word.display()))
+}
+
 impl Arguments {
     /// Takes the words apart; every option that is not known, lacks its value or comes twice is a mistake.
     pub fn parse(words: &[OsString], known: &[Known]) -> Result<Arguments, Mistake> {
@@ -40,26 +47,33 @@ impl Arguments {
                 break;
             }
             match option_of(word) {
-                Some((name, value)) => arguments.add(known_as(name, known)?, value, &mut words)?,
+                Some((name, value)) => {
+                    let next = || words.next().map(OsString::as_os_str).filter(|word| is_value(word, known));
+                    arguments.add(known_as(name, known)?, value.or_else(next))?;
+                }
                 None => arguments.plain.push(word.clone()),
             }
         }
         Ok(arguments)
     }
 
-    fn add<'a>(
-        &mut self,
-        name: &'static str,
-        value: Option<&str>,
-        words: &mut impl Iterator<Item = &'a OsString>,
-    ) -> Result<(), Mistake> {
-        let value = value.map(OsString::from).or_else(|| words.next().cloned());
+    fn add(&mut self, name: &'static str, value: Option<&OsStr>) -> Result<(), Mistake> {
+        let value = value.filter(|value| !value.is_empty());
         let value = value.ok_or_else(|| Mistake::CommandLine(format!("{name} needs a value")))?;
         if self.value(name).is_some() {
             return Err(Mistake::CommandLine(format!("{name} is given twice")));
         }
-        self.values.push((name, value));
+        self.values.push((name, value.into()));
         Ok(())
+    }
+
+    /// The plain words, if they are as many as the command wants.
+    pub fn words<const N: usize>(&self, command: &str, wanted: &str) -> Result<&[OsString; N], Mistake> {
+        if let Some(more) = self.plain.get(N) {
+            return Err(too_many(&format!("{command} takes {wanted}"), more));
+        }
+        let words = self.plain.as_slice().try_into();
+        words.map_err(|_| Mistake::CommandLine(format!("{command} needs {wanted}")))
     }
 
     pub fn value(&self, name: &str) -> Option<&OsStr> {
@@ -99,15 +113,25 @@ impl Arguments {
 }
 
 /// An option's name and the value joined to it; nothing for a plain word. A lone `-` is plain.
-fn option_of(word: &OsStr) -> Option<(&str, Option<&str>)> {
-    let text = word.to_str().filter(|text| text.len() > 1 && text.starts_with('-'))?;
-    match text.split_once('=') {
-        Some((name, value)) if text.starts_with("--") => Some((name, Some(value))),
-        _ => Some((text, None)),
+fn option_of(word: &OsStr) -> Option<(&OsStr, Option<&OsStr>)> {
+    let bytes = word.as_bytes();
+    if bytes.len() < 2 || bytes[0] != b'-' {
+        return None;
     }
+    let equals = bytes.iter().position(|byte| *byte == b'=').filter(|_| bytes.starts_with(b"--"));
+    Some(match equals {
+        Some(place) => (OsStr::from_bytes(&bytes[..place]), Some(OsStr::from_bytes(&bytes[place + 1..]))),
+        None => (word, None),
+    })
 }
 
-fn known_as(name: &str, known: &[Known]) -> Result<&'static str, Mistake> {
-    let option = known.iter().find(|option| option.long == name || option.short == Some(name));
-    option.map(|option| option.long).ok_or_else(|| Mistake::CommandLine(format!("there is no option {name}")))
+/// Whether a word after an option can be meant as its value.
+fn is_value(word: &OsStr, known: &[Known]) -> bool {
+    word != "--" && option_of(word).is_none_or(|(name, _)| known_as(name, known).is_err())
+}
+
+fn known_as(name: &OsStr, known: &[Known]) -> Result<&'static str, Mistake> {
+    let option = known.iter().find(|option| name == option.long || option.short.is_some_and(|short| name == short));
+    let option = option.ok_or_else(|| Mistake::CommandLine(format!("there is no option {}", name.display())))?;
+    Ok(option.long)
 }

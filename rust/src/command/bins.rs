@@ -1,6 +1,6 @@
 //! `steamgusset bins`: one CTU's bins read and explained, or written.
 
-use super::arguments::{Arguments, Known, long};
+use super::arguments::{Arguments, Known, long, too_many};
 use super::explain::{Element, Explained, Syntax, digits, explained};
 use super::{Ended, Mistake, Status, set_text};
 use std::ffi::OsString;
@@ -12,7 +12,8 @@ steamgusset bins [options] HEX COUNT
 steamgusset bins [options] --set SET
 
 Reads the sao() syntax of one CTU from bins, or writes a set to bins, through the stage, and explains the bins element by
-element. HEX is the bins' bytes, packed from the most significant bit of the first; COUNT says how many bins there are.
+element. HEX is the bins' bytes, packed from the most significant bit of the first, in one word; with blanks in it, it is
+put in quotes. COUNT says how many bins there are.
 
 options:
   --depth N          bit depth, 8 to 16; without it 8
@@ -30,6 +31,7 @@ are refused, the stage says; a refusal is on the error stream with its number.
 
 examples:
   steamgusset bins --depth 8 E340 11
+  steamgusset bins '9C AF 00' 17
   steamgusset bins --set edge:2:1,0,0,-2
   steamgusset bins --chroma on --set off/band:30:0,-3,0,1/band:2:1,1,1,1
   steamgusset bins --left edge:2:1,0,0,-2 --up off 80 1
@@ -45,14 +47,15 @@ const CTB: u32 = 64;
 pub fn run(words: &[OsString], out: &mut dyn Write) -> Ended {
     let arguments = Arguments::parse(words, &OPTIONS)?;
     let ctu = Ctu::parse(&arguments)?;
-    match set(&arguments, "--set")? {
-        Some(set) if arguments.plain.is_empty() => ctu.write(&set, out),
-        Some(_) => Err(Mistake::CommandLine("--set takes the place of HEX and COUNT".into())),
-        None => {
-            let (bytes, count) = typed_bins(&arguments.plain)?;
-            ctu.read(&bytes, count, out)
-        }
+    if let Some(set) = set(&arguments, "--set")? {
+        return match arguments.plain.first() {
+            Some(word) => Err(too_many("--set takes the place of HEX and COUNT", word)),
+            None => ctu.write(&set, out),
+        };
     }
+    let [hex, count] = arguments.words("bins", "HEX and COUNT, or --set SET")?;
+    let (bytes, count) = typed_bins(&hex.to_string_lossy(), &count.to_string_lossy())?;
+    ctu.read(&bytes, count, out)
 }
 
 fn set(arguments: &Arguments, name: &str) -> Result<Option<CtuSet>, Mistake> {
@@ -60,16 +63,12 @@ fn set(arguments: &Arguments, name: &str) -> Result<Option<CtuSet>, Mistake> {
     text.map(set_text::parse).transpose().map_err(|why| Mistake::CommandLine(format!("{name}: {why}")))
 }
 
-/// The bytes and the count. The bytes may be typed in several words, as they are printed in papers.
-fn typed_bins(words: &[OsString]) -> Result<(Vec<u8>, usize), Mistake> {
-    let Some((count, bytes @ [_, ..])) = words.split_last() else {
-        return Err(Mistake::CommandLine("bins needs HEX and COUNT, or --set SET".into()));
-    };
-    let (count, joined) = (count.to_string_lossy(), bytes.join("".as_ref()));
-    let joined = joined.to_string_lossy();
-    let wrong = |what: &str| Mistake::CommandLine(what.into());
-    let bytes = set_text::hex(&joined).ok_or_else(|| wrong(&format!("{joined} is not hex digits in pairs")))?;
-    let count = count.parse().map_err(|_| wrong(&format!("the count {count} is no number of bins")))?;
+/// The bytes, between which blanks may stand as they are printed in papers, and the count.
+fn typed_bins(hex: &str, count: &str) -> Result<(Vec<u8>, usize), Mistake> {
+    let digits: String = hex.split_whitespace().collect();
+    let wrong = Mistake::CommandLine;
+    let bytes = set_text::hex(&digits).ok_or_else(|| wrong(format!("{hex} is not hex digits in pairs")))?;
+    let count = count.parse().map_err(|_| wrong(format!("the count {count} is no number of bins")))?;
     Ok((bytes, count))
 }
 
@@ -104,7 +103,7 @@ impl Ctu {
     }
 
     /// The stage with the neighbours' sets in. The CTU is the last, so its neighbours are the ones before it.
-    fn opened(&self) -> Result<Stage<'static>, Mistake> {
+    fn opened(&self) -> Result<Stage, Mistake> {
         let mut stage = Stage::open(self.picture).map_err(|refusal| Mistake::Failed(refusal.to_string()))?;
         let corner = self.left.and(self.up).map(|_| CtuSet::OFF);
         let before = [("corner", corner), ("upper", self.up), ("left", self.left)];

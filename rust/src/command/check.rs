@@ -4,7 +4,7 @@ use super::arguments::{Arguments, long};
 use super::progress::Progress;
 use super::run::{NAMES, Run, changed, format_name};
 use super::shuffle::shuffled;
-use super::vector::Vector;
+use super::vector::{Unfit, Vector};
 use super::{Ended, Mistake, Status, say};
 use std::collections::BTreeMap;
 use std::ffi::OsString;
@@ -22,23 +22,22 @@ made ready are asked for at once. Finished rows are taken as they grow, and must
 options:
   --seed N   the order of the calls, a number from 0; without it 1
 
+A FILE may be /dev/stdin.
+
 A line a file: its name, size, format, depth, CTB size; for each component its CTUs that are off/band/edge; how many
 samples the filter changed; nanoseconds per sample, in which only the calls write, read, deliver, filter (also the early
-ones, which are refused) and finished rows are timed; and whether it agrees. The last line counts the files. A picture
-that the stage does not cover yet is named with the reason and counted apart; it changes nothing in the exit status.
+ones, which are refused) and finished rows are timed; and whether it agrees. A picture that the stage does not cover yet is
+named with the reason; it changes nothing in the exit status. A file that is damaged or cannot be read gets a sentence on
+the error stream. The last line counts the files, each kind apart, and the blocks that were filtered before the last
+delivery of their picture: the order of the calls decides how many.
 
 examples:
   steamgusset check vectors/*.sao
   steamgusset check --seed 7 vectors/x_420_8_72x56_ctu16-001.sao
 
-exit status: 0 every picture that is covered agrees; 1 a picture differs or a file is damaged; 2 a bad command line
+exit status: 0 every picture that is covered agrees; 1 a picture differs, or a file is damaged or cannot be read; 2 a bad
+command line
 ";
-
-/// What became of a file that is not damaged.
-enum Outcome {
-    NotCovered(&'static str),
-    Run(Report),
-}
 
 /// What a picture's run gave.
 struct Report {
@@ -47,7 +46,9 @@ struct Report {
     types: [[usize; 3]; 3],
     samples: usize,
     changed: usize,
-    early: usize,
+    blocks: usize,
+    /// The blocks filtered before the last delivery.
+    before_last: usize,
     nanoseconds: u128,
     /// What is wrong, if anything is.
     difference: Option<String>,
@@ -60,8 +61,10 @@ struct Totals {
     differ: usize,
     not_covered: usize,
     damaged: usize,
+    unreadable: usize,
     samples: usize,
-    early: usize,
+    blocks: usize,
+    before_last: usize,
     nanoseconds: u128,
 }
 
@@ -80,34 +83,34 @@ pub fn run(words: &[OsString], out: &mut dyn Write) -> Ended {
         let outcome = judged(file, seed, |steps, of| progress.at(number, steps, of));
         progress.clear();
         match &outcome {
-            Ok(outcome) => writeln!(out, "{name:longest$}  {}", line(outcome))?,
-            Err(why) => say(&format!("{name}: {why}")),
+            Ok(report) => writeln!(out, "{name:longest$}  {}", line(report))?,
+            Err(Unfit::NotCovered(why)) => writeln!(out, "{name:longest$}  not covered: {why}")?,
+            Err(unfit) => say(&format!("{name}: {unfit}")),
         }
         totals.add(&outcome);
     }
     writeln!(out, "{}", totals.line())?;
     out.flush()?;
-    Ok(if totals.differ + totals.damaged == 0 { Status::Fine } else { Status::Disagrees })
+    Ok(if totals.differ + totals.damaged + totals.unreadable == 0 { Status::Fine } else { Status::Disagrees })
 }
 
-/// Puts one file's picture through the stage; a damaged file is a sentence.
-fn judged(file: &Path, seed: u64, mut progress: impl FnMut(usize, usize)) -> Result<Outcome, String> {
+/// Puts one file's picture through the stage. A set that no bins mean is found only here, and is damage too.
+fn judged(file: &Path, seed: u64, mut progress: impl FnMut(usize, usize)) -> Result<Report, Unfit> {
     let vector = Vector::read(file)?;
-    if let Some(why) = vector.not_covered() {
-        return Ok(Outcome::NotCovered(why));
-    }
     let mut run = Run::open(&vector)?;
     let difference = replayed(&mut run, &vector, seed, &mut progress).err();
     let after = [0, 1, 2].map(|component| run.stage.filtered(component));
-    Ok(Outcome::Run(Report {
-        picture: vector.picture(),
-        types: types(&vector.sets()),
+    let (picture, sets) = (vector.picture(), vector.sets());
+    Ok(Report {
+        picture,
+        types: types(&sets),
         samples: vector.deblocked.iter().map(Vec::len).sum(),
         changed: changed(&vector.deblocked, after),
-        early: run.early,
+        blocks: sets.len() * picture.components() as usize,
+        before_last: run.before_delivery,
         nanoseconds: run.clock.nanoseconds(),
         difference,
-    }))
+    })
 }
 
 /// All steps in the seed's order, with the finished rows watched, and the comparison; the first thing wrong ends it.
@@ -198,12 +201,8 @@ fn type_number(offsets: Offsets) -> usize {
     }
 }
 
-/// A file's line after its name.
-fn line(outcome: &Outcome) -> String {
-    let report = match outcome {
-        Outcome::NotCovered(why) => return format!("not covered: {why}"),
-        Outcome::Run(report) => report,
-    };
+/// A picture's line after its file's name.
+fn line(report: &Report) -> String {
     let Picture { width, height, ctb, depth, .. } = report.picture;
     let component = |of: usize| {
         let [off, band, edge] = report.types[of];
@@ -226,30 +225,36 @@ fn per_sample(nanoseconds: u128, samples: usize) -> String {
 }
 
 impl Totals {
-    fn add(&mut self, outcome: &Result<Outcome, String>) {
-        match outcome {
-            Err(_) => self.damaged += 1,
-            Ok(Outcome::NotCovered(_)) => self.not_covered += 1,
-            Ok(Outcome::Run(report)) => {
-                let counted = if report.difference.is_none() { &mut self.agree } else { &mut self.differ };
-                *counted += 1;
-                self.samples += report.samples;
-                self.early += report.early;
-                self.nanoseconds += report.nanoseconds;
-            }
+    fn add(&mut self, outcome: &Result<Report, Unfit>) {
+        let counted = match outcome {
+            Ok(Report { difference: None, .. }) => &mut self.agree,
+            Ok(_) => &mut self.differ,
+            Err(Unfit::NotCovered(_)) => &mut self.not_covered,
+            Err(Unfit::Damaged(_)) => &mut self.damaged,
+            Err(Unfit::CannotBeRead(_)) => &mut self.unreadable,
+        };
+        *counted += 1;
+        if let Ok(report) = outcome {
+            self.samples += report.samples;
+            self.blocks += report.blocks;
+            self.before_last += report.before_last;
+            self.nanoseconds += report.nanoseconds;
         }
     }
 
     fn line(&self) -> String {
-        let Totals { agree, differ, not_covered, damaged, samples, early, nanoseconds } = self;
-        let files = format!("{agree} agree, {differ} differ, {not_covered} not covered, {damaged} damaged");
+        let Totals { agree, differ, not_covered, damaged, unreadable, samples, blocks, before_last, nanoseconds } =
+            self;
+        let files = format!(
+            "{agree} agree, {differ} differ, {not_covered} not covered, {damaged} damaged, {unreadable} cannot be read"
+        );
         if *samples == 0 {
             return files;
         }
         let per_sample = per_sample(*nanoseconds, *samples);
         format!(
-            "{files}; {samples} samples, {early} asks too early, {per_sample} ns/sample in the calls write, read, \
-             deliver, filter and finished rows"
+            "{files}; {samples} samples, {before_last} of {blocks} blocks filtered before the last delivery, \
+             {per_sample} ns/sample in the calls"
         )
     }
 }

@@ -1,43 +1,52 @@
 //! `steamgusset filter`: the picture of a vector file, filtered and written, with images to look at.
 
 use super::arguments::{Arguments, Known, long};
+use super::compare::compared;
 use super::image::Image;
-use super::output::{Output, write_all};
+use super::output::{Output, Target, write_all};
 use super::run::{Run, changed, format_name};
 use super::shuffle::in_order;
 use super::vector::Vector;
-use super::{Ended, Mistake, Status};
+use super::{Ended, Mistake, Status, say};
 use std::ffi::{OsStr, OsString};
 use std::io::Write;
 use std::path::{Path, PathBuf};
 use steamgusset::Picture;
 
 pub const HELP: &str = "\
-steamgusset filter FILE --output OUT.yuv [--png PREFIX | --ppm PREFIX] [--amplify N]
+steamgusset filter FILE [--output OUT.yuv] [--compare OUT.png] [--png PREFIX | --ppm PREFIX] [--amplify N]
 
-Filters the deblocked planes of a vector file with its sets, through the stage, and writes the result as planar YUV: all of
-Y, then Cb, then Cr (4:0:0: Y alone), a byte a sample at depth 8, else two bytes, the low one first. It does not compare;
-check does. At the end a line says what was done.
+Filters the deblocked planes of a vector file with its sets, through the stage, and writes what is asked for: at least
+one of the first four options. It does not compare with the file's final planes; check does. At the end a line says what
+was done.
 
 options:
-  -o, --output OUT.yuv   the file to write
-  --png PREFIX           writes PREFIX-before.png, PREFIX-after.png and PREFIX-difference.png too
+  -o, --output OUT.yuv   the filtered picture as planar YUV: all of Y, then Cb, then Cr (4:0:0: Y alone), a byte a
+                         sample at depth 8, else two bytes, the low one first
+  --compare OUT.png      one image: before, after and difference side by side, reduced to 640 pixels or less, and below
+                         each, enlarged 8 times, the same square of 48x48 luma samples, where luma changed most; a PPM
+                         if the name ends in .ppm
+  --png PREFIX           PREFIX-before.png, PREFIX-after.png and PREFIX-difference.png
   --ppm PREFIX           the same as .ppm
   --amplify N            how much the difference is amplified, 1 to 255; without it 16
 
-Colours are those of BT.709 in limited range. The difference is that of luma, in steps of the picture's depth: grey 128 is
-no change, lighter is more. Files are written to a temporary name first, so a failure leaves what was there; the input is
-never written over.
+OUT.yuv or OUT.png may be -, the standard output; then the closing line goes to the error stream. A file of that name
+is ./-. Files are written to a temporary name first, so a failure leaves what was there; the input is never written
+over.
+
+Colours are those of BT.709 in limited range. The difference is that of luma, in steps of the picture's depth: grey 128
+is no change, lighter is more.
 
 examples:
-  steamgusset filter vectors/x_420_8_72x56_ctu16-001.sao -o out.yuv
+  steamgusset filter vectors/card_420_8_416x240.sao --compare card.png
+  steamgusset filter vectors/x_420_8_72x56_ctu16-001.sao -o - | sha256sum
   steamgusset filter vectors/s_420_10_clip-000.sao -o out.yuv --png out --amplify 8
 
-exit status: 0 written; 1 the file is bad or not covered, or nothing could be written; 2 a bad command line
+exit status: 0 written; 1 the file is bad or not covered, or a file could not be written; 2 a bad command line
 ";
 
-const OPTIONS: [Known; 4] =
-    [Known { long: "--output", short: Some("-o") }, long("--png"), long("--ppm"), long("--amplify")];
+const OPTIONS: [Known; 5] =
+    [Known { long: "--output", short: Some("-o") }, long("--compare"), long("--png"), long("--ppm"), long("--amplify")];
 
 /// How an image becomes bytes, and what its name ends with.
 struct Kind {
@@ -45,50 +54,97 @@ struct Kind {
     bytes: fn(&Image) -> Vec<u8>,
 }
 
+const PNG: Kind = Kind { ending: "png", bytes: Image::to_png };
+const PPM: Kind = Kind { ending: "ppm", bytes: Image::to_ppm };
+
+/// The planes before and after.
+struct Planes<'a> {
+    picture: Picture,
+    before: [&'a [u16]; 3],
+    after: [&'a [u16]; 3],
+}
+
+/// What is to be written.
+struct Asked<'a> {
+    output: Option<&'a OsStr>,
+    compare: Option<&'a OsStr>,
+    images: Option<(&'a OsStr, Kind)>,
+    amplify: u8,
+}
+
 pub fn run(words: &[OsString], out: &mut dyn Write) -> Ended {
     let arguments = Arguments::parse(words, &OPTIONS)?;
-    let [file] = arguments.plain.as_slice() else {
-        return Err(Mistake::CommandLine("filter takes one file".into()));
-    };
-    let target = arguments.value("--output").ok_or(Mistake::CommandLine("filter needs --output OUT.yuv".into()))?;
-    let images = images_asked(&arguments)?;
-    let amplify = arguments.number("--amplify", 1, u8::MAX, 16)?;
+    let [file] = arguments.words("filter", "one file")?;
+    let asked = Asked::parse(&arguments)?;
     let failed = |why: String| Mistake::Failed(format!("{}: {why}", file.display()));
-    let vector = Vector::read(Path::new(file)).map_err(failed)?;
+    let vector = Vector::read(Path::new(file)).map_err(|unfit| failed(unfit.to_string()))?;
     let run = filtered(&vector).map_err(failed)?;
 
-    let (picture, after) = (vector.picture(), [0, 1, 2].map(|component| run.stage.filtered(component)));
-    let mut outputs = vec![Output { target: PathBuf::from(target), bytes: yuv(&picture, after) }];
-    if let Some((prefix, kind)) = images {
-        let before = vector.deblocked.each_ref().map(Vec::as_slice);
-        outputs.extend(image_files(prefix, &kind, &picture, before, after, amplify));
+    let after = [0, 1, 2].map(|component| run.stage.filtered(component));
+    let before = vector.deblocked.each_ref().map(Vec::as_slice);
+    let outputs = asked.outputs(&Planes { picture: vector.picture(), before, after });
+    write_all(&outputs, Path::new(file), out)?;
+    let line = line(&vector.picture(), changed(&vector.deblocked, after), &outputs);
+    if outputs.iter().any(|output| output.target == Target::StandardOutput) {
+        say(&line);
+    } else {
+        writeln!(out, "{line}")?;
     }
-    write_all(&outputs, Path::new(file)).map_err(Mistake::Failed)?;
-    writeln!(out, "{}", line(&picture, changed(&vector.deblocked, after), &outputs))?;
-    out.flush()?;
     Ok(Status::Fine)
+}
+
+impl<'a> Asked<'a> {
+    fn parse(arguments: &'a Arguments) -> Result<Asked<'a>, Mistake> {
+        let (output, compare) = (arguments.value("--output"), arguments.value("--compare"));
+        let images = images_asked(arguments)?;
+        let wrong = |why: &str| Err(Mistake::CommandLine(why.into()));
+        if output.is_none() && compare.is_none() && images.is_none() {
+            return wrong("filter needs something to write: --output, --compare, --png or --ppm");
+        }
+        if [output, compare].map(|word| word.map(Target::typed)) == [const { Some(Target::StandardOutput) }; 2] {
+            return wrong("--output and --compare cannot both be the standard output");
+        }
+        if compare.is_none() && images.is_none() && arguments.value("--amplify").is_some() {
+            return wrong("--amplify needs --compare, --png or --ppm");
+        }
+        Ok(Asked { output, compare, images, amplify: arguments.number("--amplify", 1, u8::MAX, 16)? })
+    }
+
+    fn outputs(&self, planes: &Planes) -> Vec<Output> {
+        let Planes { picture, before, after } = planes;
+        let output = |word: &OsStr| Output { target: Target::typed(word), bytes: yuv(picture, *after) };
+        let compare = |word: &OsStr| {
+            let ending = Path::new(word).extension();
+            let kind = if ending.is_some_and(|ending| ending.eq_ignore_ascii_case(PPM.ending)) { PPM } else { PNG };
+            let image = compared(picture, *before, *after, self.amplify);
+            Output { target: Target::typed(word), bytes: (kind.bytes)(&image) }
+        };
+        let mut outputs: Vec<Output> = self.output.map(output).into_iter().collect();
+        outputs.extend(self.compare.map(compare));
+        if let Some((prefix, kind)) = &self.images {
+            outputs.extend(image_files(prefix, kind, planes, self.amplify));
+        }
+        outputs
+    }
 }
 
 /// The images' prefix and kind, if they are asked for.
 fn images_asked(arguments: &Arguments) -> Result<Option<(&OsStr, Kind)>, Mistake> {
-    let png = Kind { ending: "png", bytes: Image::to_png };
-    let ppm = Kind { ending: "ppm", bytes: Image::to_ppm };
-    match (arguments.value("--png"), arguments.value("--ppm")) {
-        (Some(_), Some(_)) => Err(Mistake::CommandLine("--png and --ppm do not go together".into())),
-        (Some(prefix), None) => Ok(Some((prefix, png))),
-        (None, Some(prefix)) => Ok(Some((prefix, ppm))),
-        (None, None) if arguments.value("--amplify").is_some() => {
-            Err(Mistake::CommandLine("--amplify needs --png or --ppm".into()))
-        }
-        (None, None) => Ok(None),
+    let asked = match (arguments.value("--png"), arguments.value("--ppm")) {
+        (Some(_), Some(_)) => return Err(Mistake::CommandLine("--png and --ppm do not go together".into())),
+        (Some(prefix), None) => Some((prefix, PNG)),
+        (None, Some(prefix)) => Some((prefix, PPM)),
+        (None, None) => None,
+    };
+    if let Some((_, kind)) = asked.as_ref().filter(|(prefix, _)| *prefix == "-") {
+        let sentence = format!("--{} writes three files, which cannot all be the standard output", kind.ending);
+        return Err(Mistake::CommandLine(sentence));
     }
+    Ok(asked)
 }
 
 /// The picture with every block filtered.
 fn filtered(vector: &Vector) -> Result<Run<'_>, String> {
-    if let Some(why) = vector.not_covered() {
-        return Err(format!("the stage does not cover the picture: {why}"));
-    }
     let mut run = Run::open(vector)?;
     let ctus = run.stage.sizes().ctus as u32;
     for step in in_order(vector.picture().components(), ctus) {
@@ -106,29 +162,23 @@ fn yuv(picture: &Picture, planes: [&[u16]; 3]) -> Vec<u8> {
     }
 }
 
-fn image_files(
-    prefix: &OsStr,
-    kind: &Kind,
-    picture: &Picture,
-    before: [&[u16]; 3],
-    after: [&[u16]; 3],
-    amplify: u8,
-) -> [Output; 3] {
+fn image_files(prefix: &OsStr, kind: &Kind, planes: &Planes, amplify: u8) -> [Output; 3] {
+    let Planes { picture, before, after } = planes;
     let images = [
-        ("before", Image::of_planes(picture, before)),
-        ("after", Image::of_planes(picture, after)),
+        ("before", Image::of_planes(picture, *before)),
+        ("after", Image::of_planes(picture, *after)),
         ("difference", Image::of_difference(picture, before[0], after[0], amplify)),
     ];
     images.map(|(which, image)| {
         let mut name = prefix.to_os_string();
         name.push(format!("-{which}.{}", kind.ending));
-        Output { target: PathBuf::from(name), bytes: (kind.bytes)(&image) }
+        Output { target: Target::File(PathBuf::from(name)), bytes: (kind.bytes)(&image) }
     })
 }
 
 fn line(picture: &Picture, changed: usize, outputs: &[Output]) -> String {
-    let names: Vec<String> = outputs.iter().map(|output| output.target.display().to_string()).collect();
+    let names: Vec<String> = outputs.iter().map(|output| output.target.to_string()).collect();
     let Picture { width, height, depth, .. } = picture;
     let format = format_name(picture);
-    format!("{width}x{height} {format} depth {depth}: {changed} samples changed, written {}", names.join(", "))
+    format!("{width}x{height} {format} depth {depth}: {changed} samples changed, written: {}", names.join(", "))
 }

@@ -1,7 +1,65 @@
-//! The header of a vector file: 32 numbers, each within its limits, that agree with each other.
+//! The header of a vector file: a mark and 32 numbers, each within its limits, that agree with each other.
 
-/// How many numbers the header has.
-pub const FIELDS: usize = 32;
+use std::fmt::Arguments;
+
+const MARK: &[u8; 8] = b"SAOVEC1\0";
+
+/// How many bytes the header has.
+pub const HEADER_BYTES: usize = MARK.len() + 4 * FIELDS.len();
+
+/// How many bytes a slice segment has.
+pub const SEGMENT_BYTES: usize = 24;
+
+/// A number of the header: its name in the format and its limits, as far as they depend on no other number.
+struct Field {
+    name: &'static str,
+    least: i32,
+    most: i32,
+}
+
+const fn field(name: &'static str, least: i32, most: i32) -> Field {
+    Field { name, least, most }
+}
+
+const RESERVED: Field = field("reserved", 0, 0);
+
+/// A side of 65528, which 4096 CTBs of size 16 hold, is beyond every level of the standard.
+const FIELDS: [Field; 32] = [
+    field("width", 8, 65528),
+    field("height", 8, 65528),
+    field("chroma_format_idc", 0, 3),
+    field("BitDepthY", 8, 16),
+    field("BitDepthC", 8, 16),
+    field("CtbLog2SizeY", 4, 6),
+    field("MinCbLog2SizeY", 3, 6),
+    field("CTB columns", 1, 4096),
+    field("CTB rows", 1, 4096),
+    field("log2_sao_offset_scale_luma", 0, 6),
+    field("log2_sao_offset_scale_chroma", 0, 6),
+    field("pcm_loop_filter_disabled_flag", 0, 1),
+    field("loop_filter_across_tiles_enabled_flag", 0, 1),
+    field("tile columns", 1, 4096),
+    field("tile rows", 1, 4096),
+    field("slice segments", 1, 4096 * 4096),
+    field("picture count", i32::MIN, i32::MAX),
+    field("picture count", i32::MIN, i32::MAX),
+    field("cropping", 0, 0),
+    field("cropping", 0, 0),
+    field("cropping", 0, 0),
+    field("cropping", 0, 0),
+    field("sample_adaptive_offset_enabled_flag", 0, 1),
+    field("OR of the skip map", 0, 3),
+    field("ChromaArrayType", 0, 3),
+    RESERVED,
+    RESERVED,
+    RESERVED,
+    RESERVED,
+    RESERVED,
+    RESERVED,
+    RESERVED,
+];
+
+type Numbers = [i32; FIELDS.len()];
 
 /// The header's numbers that a rule here needs. Each is within its limits, so their products are too.
 pub struct Header {
@@ -22,59 +80,40 @@ pub struct Header {
     pub segments: usize,
     pub sao_enabled: bool,
     /// The OR of the skip map.
-    pub skip: i32,
+    pub skip: u8,
     chroma_array_type: u8,
 }
 
 impl Header {
+    /// The header of a file that begins with these bytes, which are fewer than a header's only if the file ends there.
     pub fn parse(bytes: &[u8]) -> Result<Header, String> {
-        let fields: Vec<i32> = numbers(bytes).collect();
-        let field = |place: usize, least: i32, most: i32, what: &str| within(fields[place], least, most, what);
-        let [columns, rows] = [field(7, 1, 8192, "number of CTB columns")?, field(8, 1, 8192, "number of CTB rows")?];
-        let header = Header {
-            width: field(0, 8, 65528, "width")? as usize,
-            height: field(1, 8, 65528, "height")? as usize,
-            format: field(2, 0, 3, "chroma_format_idc")? as u8,
-            depths: [field(3, 8, 16, "luma depth")? as u8, field(4, 8, 16, "chroma depth")? as u8],
-            ctb_log2: field(5, 4, 6, "CTB size's logarithm")?,
-            min_cb_log2: field(6, 3, fields[5], "smallest coding block size's logarithm")?,
-            columns: columns as usize,
-            rows: rows as usize,
-            scales: [field(9, 0, 6, "luma offset scale")? as u8, field(10, 0, 6, "chroma offset scale")? as u8],
-            pcm_loop_filter_disabled: field(11, 0, 1, "pcm_loop_filter_disabled_flag")? == 1,
-            tiles: [
-                field(13, 1, fields[7], "number of tile columns")? as usize,
-                field(14, 1, fields[8], "number of tile rows")? as usize,
-            ],
-            // A segment has a CTU at least.
-            segments: field(15, 1, (columns * rows) as i32, "number of slice segments")? as usize,
-            sao_enabled: field(22, 0, 1, "sample_adaptive_offset_enabled_flag")? == 1,
-            skip: fields[23],
-            chroma_array_type: field(24, 0, 3, "ChromaArrayType")? as u8,
-        };
-        field(12, 0, 1, "loop_filter_across_tiles_enabled_flag")?;
-        if fields[18..22].iter().chain(&fields[25..]).any(|field| *field != 0) {
-            return Err("a header field that must be 0 is not".into());
+        let rest = bytes.strip_prefix(MARK).ok_or("the file does not begin with the mark SAOVEC1")?;
+        if bytes.len() < HEADER_BYTES {
+            return Err(format!("the file ends within its header, after {} of {HEADER_BYTES} bytes", bytes.len()));
         }
-        header.agrees_with_itself().map(|()| header)
-    }
-
-    fn agrees_with_itself(&self) -> Result<(), String> {
-        let side = 1 << self.ctb_log2;
-        let unit = 1usize << self.min_cb_log2;
-        let separate_planes = self.format == 3 && self.chroma_array_type == 0;
-        let rules = [
-            (
-                self.width.is_multiple_of(unit) && self.height.is_multiple_of(unit),
-                "the size is no multiple of the smallest coding block",
-            ),
-            (
-                (self.columns, self.rows) == (self.width.div_ceil(side), self.height.div_ceil(side)),
-                "the CTB columns and rows do not fit the picture's size",
-            ),
-            (self.chroma_array_type == self.format || separate_planes, "ChromaArrayType does not fit the format"),
-        ];
-        rules.into_iter().find(|(holds, _)| !holds).map_or(Ok(()), |(_, why)| Err(why.into()))
+        let numbers = array(rest);
+        for (place, field) in FIELDS.iter().enumerate() {
+            outside(numbers[place], field.least, field.most).map_or(Ok(()), |how| Err(bad(&numbers, place, &how)))?;
+        }
+        agree(&numbers)?;
+        let two = |place: usize| [numbers[place] as u8, numbers[place + 1] as u8];
+        Ok(Header {
+            width: numbers[0] as usize,
+            height: numbers[1] as usize,
+            format: numbers[2] as u8,
+            depths: two(3),
+            ctb_log2: numbers[5] as u32,
+            min_cb_log2: numbers[6] as u32,
+            columns: numbers[7] as usize,
+            rows: numbers[8] as usize,
+            scales: two(9),
+            pcm_loop_filter_disabled: numbers[11] == 1,
+            tiles: [numbers[13] as usize, numbers[14] as usize],
+            segments: numbers[15] as usize,
+            sao_enabled: numbers[22] == 1,
+            skip: numbers[23] as u8,
+            chroma_array_type: numbers[24] as u8,
+        })
     }
 
     pub fn planes(&self) -> usize {
@@ -93,18 +132,83 @@ impl Header {
     pub fn ctu_bytes(&self) -> usize {
         4 + 8 * self.planes()
     }
+
+    /// How many bytes the parts after the header have: tile boundaries, slice segments, CTUs, skip map, deblocked planes,
+    /// final planes.
+    pub fn parts(&self) -> [usize; 6] {
+        let samples: usize = (0..3).map(|component| self.plane_samples(component)).sum();
+        [
+            4 * (self.tiles[0] + 1 + self.tiles[1] + 1),
+            SEGMENT_BYTES * self.segments,
+            self.ctu_bytes() * self.columns * self.rows,
+            (self.width >> self.min_cb_log2) * (self.height >> self.min_cb_log2),
+            2 * samples,
+            2 * samples,
+        ]
+    }
+}
+
+/// Judges the numbers, each within its own limits, by each other.
+fn agree(numbers: &Numbers) -> Result<(), String> {
+    let [width, height, format, luma_depth, chroma_depth, ctb_log2, min_cb_log2, columns, rows, ..] = *numbers;
+    let ctbs = |side: i32| (side + (1 << ctb_log2) - 1) >> ctb_log2;
+    let exactly = |place: usize, number: i32, why: Arguments| limited(numbers, place, number, number, why);
+    let up_to = |place: usize, most: i32, why: Arguments| limited(numbers, place, FIELDS[place].least, most, why);
+    // The range of the October 2014 edition, the first to send the scale.
+    let largest_scale = |depth: i32| (depth - 10).max(0);
+
+    up_to(6, ctb_log2, format_args!("CtbLog2SizeY {ctb_log2}"))?;
+    multiple(numbers, 0, min_cb_log2)?;
+    multiple(numbers, 1, min_cb_log2)?;
+    exactly(7, ctbs(width), format_args!("width {width}, CtbLog2SizeY {ctb_log2}"))?;
+    exactly(8, ctbs(height), format_args!("height {height}, CtbLog2SizeY {ctb_log2}"))?;
+    up_to(9, largest_scale(luma_depth), format_args!("BitDepthY {luma_depth}"))?;
+    up_to(10, largest_scale(chroma_depth), format_args!("BitDepthC {chroma_depth}"))?;
+    up_to(13, columns, format_args!("CTB columns {columns}"))?;
+    up_to(14, rows, format_args!("CTB rows {rows}"))?;
+    // A segment has a CTB at least.
+    up_to(15, columns * rows, format_args!("CTB columns {columns}, CTB rows {rows}"))?;
+    match (format, numbers[24]) {
+        // 4:4:4 may have its planes coded apart, each as if it were monochrome.
+        (3, 0 | 3) => Ok(()),
+        (3, _) => Err(bad(numbers, 24, "neither 0 nor 3 (chroma_format_idc 3)")),
+        _ => exactly(24, format, format_args!("chroma_format_idc {format}")),
+    }
+}
+
+/// Judges a number by two limits, and says which other numbers give them.
+fn limited(numbers: &Numbers, place: usize, least: i32, most: i32, why: Arguments) -> Result<(), String> {
+    outside(numbers[place], least, most).map_or(Ok(()), |how| Err(format!("{} ({why})", bad(numbers, place, &how))))
+}
+
+/// Judges a side of the picture: it has whole smallest coding blocks.
+fn multiple(numbers: &Numbers, place: usize, min_cb_log2: i32) -> Result<(), String> {
+    let unit = 1 << min_cb_log2;
+    let how = format!("no multiple of {unit} (MinCbLog2SizeY {min_cb_log2})");
+    if numbers[place] % unit == 0 { Ok(()) } else { Err(bad(numbers, place, &how)) }
+}
+
+fn bad(numbers: &Numbers, place: usize, how: &str) -> String {
+    format!("header field {place}, {}, is {}, {how}", FIELDS[place].name, numbers[place])
+}
+
+/// How a number misses its limits, if it does.
+pub fn outside(number: i32, least: i32, most: i32) -> Option<String> {
+    match (least..=most).contains(&number) {
+        true => None,
+        false if least == most => Some(format!("not {least}")),
+        false => Some(format!("outside {least} to {most}")),
+    }
+}
+
+/// So many numbers of the bytes, which have no fewer.
+pub fn array<const N: usize>(bytes: &[u8]) -> [i32; N] {
+    let mut array = [0; N];
+    array.iter_mut().zip(numbers(bytes)).for_each(|(own, number)| *own = number);
+    array
 }
 
 /// The little-endian numbers of four bytes each.
 pub fn numbers(bytes: &[u8]) -> impl Iterator<Item = i32> {
     bytes.as_chunks().0.iter().map(|four| i32::from_le_bytes(*four))
-}
-
-/// A number of the file between two limits, of which the lower is not negative.
-pub fn within(number: i32, least: i32, most: i32, what: &str) -> Result<u32, String> {
-    if (least..=most).contains(&number) {
-        Ok(number.unsigned_abs())
-    } else {
-        Err(format!("the {what} is {number}, outside {least} to {most}"))
-    }
 }

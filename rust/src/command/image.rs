@@ -1,4 +1,4 @@
-//! Images to look at: planes turned into colours, and written as PNG or PPM.
+//! Images to look at: planes turned into colours, parts put together, and written as PNG or PPM.
 //!
 //! Colours are those of BT.709 in limited range, whatever the stream says: luma 16 to 235 and chroma 16 to 240 at depth
 //! 8, and their multiples above. A chroma sample serves the four luma samples it belongs to. A PNG here is not packed:
@@ -6,18 +6,37 @@
 
 use steamgusset::Picture;
 
-/// An image of 8-bit red, green and blue.
+/// 8-bit red, green and blue.
+pub type Colour = [u8; 3];
+
+/// An image, row after row.
 pub struct Image {
     width: usize,
-    height: usize,
-    pixels: Vec<[u8; 3]>,
+    pixels: Vec<Colour>,
+}
+
+/// A part of an image: its left upper corner and its size.
+pub struct Part {
+    pub x: usize,
+    pub y: usize,
+    pub width: usize,
+    pub height: usize,
 }
 
 impl Image {
+    pub fn new(width: usize, pixels: Vec<Colour>) -> Image {
+        Image { width, pixels }
+    }
+
+    /// An image of one colour.
+    pub fn plain(width: usize, height: usize, colour: Colour) -> Image {
+        Image::new(width, vec![colour; width * height])
+    }
+
     /// A picture's planes in colour; a monochrome one in grey.
     pub fn of_planes(picture: &Picture, planes: [&[u16]; 3]) -> Image {
         let [luma, cb, cr] = planes;
-        let (width, height) = (picture.width as usize, picture.height as usize);
+        let width = picture.width as usize;
         let unit = f64::from(1u32 << (picture.depth - 8));
         let chroma = |plane: &[u16], place: usize| {
             let (x, y) = (place % width / 2, place / width / 2);
@@ -27,7 +46,7 @@ impl Image {
             let light = (f64::from(*sample) / unit - 16.0) / 219.0;
             colour(light, chroma(cb, place), chroma(cr, place))
         };
-        Image { width, height, pixels: luma.iter().enumerate().map(pixel).collect() }
+        Image::new(width, luma.iter().enumerate().map(pixel).collect())
     }
 
     /// What became of luma, amplified: grey 128 is no change, lighter is more.
@@ -36,12 +55,55 @@ impl Image {
             let change = (i32::from(*after) - i32::from(*before)) * i32::from(amplify);
             [(128 + change).clamp(0, 255) as u8; 3]
         };
-        let pixels = before.iter().zip(after).map(pixel).collect();
-        Image { width: picture.width as usize, height: picture.height as usize, pixels }
+        Image::new(picture.width as usize, before.iter().zip(after).map(pixel).collect())
+    }
+
+    pub fn width(&self) -> usize {
+        self.width
+    }
+
+    pub fn height(&self) -> usize {
+        self.pixels.len() / self.width
+    }
+
+    /// A part as an image of its own.
+    pub fn part(&self, part: &Part) -> Image {
+        let row = |y: usize| &self.pixels[y * self.width + part.x..][..part.width];
+        Image::new(part.width, (part.y..part.y + part.height).flat_map(row).copied().collect())
+    }
+
+    /// The image with every pixel as a square of so many times so many.
+    pub fn enlarged(&self, times: usize) -> Image {
+        let width = self.width * times;
+        let pixel = |place: usize| self.pixels[place / width / times * self.width + place % width / times];
+        Image::new(width, (0..self.pixels.len() * times * times).map(pixel).collect())
+    }
+
+    /// The image with only one of so many rows and columns.
+    pub fn thinned(&self, step: usize) -> Image {
+        let row = |row: &[Colour]| row.iter().step_by(step).copied().collect::<Vec<_>>();
+        Image::new(self.width.div_ceil(step), self.pixels.chunks(self.width).step_by(step).flat_map(row).collect())
+    }
+
+    /// Puts another image over this one, its left upper corner at (x, y); all of it must fit.
+    pub fn put(&mut self, image: &Image, x: usize, y: usize) {
+        for (number, row) in image.pixels.chunks(image.width).enumerate() {
+            self.pixels[(y + number) * self.width + x..][..image.width].copy_from_slice(row);
+        }
+    }
+
+    /// Draws the border of a part, within it, over what is there.
+    pub fn outline(&mut self, part: &Part, colour: Colour) {
+        let Part { x, y, width, height } = *part;
+        let (across, down) = (Image::plain(width, 1, colour), Image::plain(1, height, colour));
+        self.put(&across, x, y);
+        self.put(&across, x, y + height - 1);
+        self.put(&down, x, y);
+        self.put(&down, x + width - 1, y);
     }
 
     pub fn to_ppm(&self) -> Vec<u8> {
-        let mut bytes = format!("P6\n{} {}\n255\n", self.width, self.height).into_bytes();
+        let mut bytes = format!("P6\n{} {}\n255\n", self.width, self.height()).into_bytes();
         bytes.extend(self.pixels.as_flattened());
         bytes
     }
@@ -49,10 +111,10 @@ impl Image {
     pub fn to_png(&self) -> Vec<u8> {
         let mut header = Vec::new();
         header.extend((self.width as u32).to_be_bytes());
-        header.extend((self.height as u32).to_be_bytes());
+        header.extend((self.height() as u32).to_be_bytes());
         // Depth 8, colour type RGB, and the only compression, filter and interlace methods but one.
         header.extend([8, 2, 0, 0, 0]);
-        let mut rows = Vec::with_capacity(self.height * (1 + 3 * self.width));
+        let mut rows = Vec::with_capacity(self.height() * (1 + 3 * self.width));
         for row in self.pixels.chunks(self.width) {
             rows.push(0); // This row is not filtered.
             rows.extend(row.as_flattened());
@@ -66,7 +128,7 @@ impl Image {
 }
 
 /// Red, green and blue of BT.709, from light between 0 and 1 and colour differences around 0.
-fn colour(light: f64, cb: f64, cr: f64) -> [u8; 3] {
+fn colour(light: f64, cb: f64, cr: f64) -> Colour {
     let rgb = [light + 1.5748 * cr, light - 0.1873 * cb - 0.4681 * cr, light + 1.8556 * cb];
     rgb.map(|part| (part.clamp(0.0, 1.0) * 255.0).round() as u8)
 }

@@ -3,24 +3,28 @@
 mod arguments;
 mod bins;
 mod check;
+mod compare;
 mod explain;
 mod filter;
 mod header;
 mod image;
+mod letters;
 mod output;
 mod progress;
 mod run;
 mod set_text;
 mod shuffle;
+mod standard_output;
 mod vector;
 
+pub use standard_output::standard_output;
 use std::ffi::OsString;
 use std::io::{self, Write};
 
 /// How a command ends that did what it was asked.
 pub enum Status {
     Fine,
-    /// A file differs or is damaged; the command has said which.
+    /// A file differs, is damaged or cannot be read; the command has said which.
     Disagrees,
 }
 
@@ -28,7 +32,9 @@ pub enum Status {
 pub enum Mistake {
     CommandLine(String),
     Failed(String),
-    /// The reader of the output went away, which is no news to them.
+    /// The standard output is closed or cannot be written.
+    NotPrinted(String),
+    /// The reader of the standard output went away, which is no news to them.
     NobodyReads,
 }
 
@@ -37,7 +43,7 @@ impl From<io::Error> for Mistake {
     fn from(why: io::Error) -> Mistake {
         match why.kind() {
             io::ErrorKind::BrokenPipe => Mistake::NobodyReads,
-            _ => Mistake::Failed(format!("the output cannot be written: {why}")),
+            _ => Mistake::NotPrinted(format!("the standard output cannot be written: {why}")),
         }
     }
 }
@@ -63,65 +69,91 @@ usage:
   steamgusset check [--seed N] FILE...
       puts the pictures of vector files through the stage in a shuffled order of calls
       and compares them with what a real decoder made
-  steamgusset filter FILE --output OUT.yuv [--png PREFIX | --ppm PREFIX] [--amplify N]
-      filters the picture of a vector file and writes it, with images to look at
+  steamgusset filter FILE [--output OUT.yuv] [--compare OUT.png] [options]
+      filters the picture of a vector file and writes it, or images to look at
   steamgusset bins [options] HEX COUNT
   steamgusset bins [options] --set SET
       reads one CTU's bins and explains them field by field, or writes them
   steamgusset help [COMMAND], steamgusset COMMAND --help
       says more about a command
   steamgusset --version
+      says the versions of the command and of the stage that it is linked with
 
 examples:
   steamgusset check vectors/*.sao
-  steamgusset filter vectors/x_420_8_72x56_ctu16-001.sao -o out.yuv --png out
+  steamgusset filter vectors/card_420_8_416x240.sao -o out.yuv --compare out.png
   steamgusset bins --depth 8 E340 11
 
 exit status: 0 fine; 1 a disagreement, a refusal or a bad file; 2 a bad command line
 ";
 
-/// Runs what the words ask for.
+/// What ends every help text: no command has a say in it.
+const STATUS_OF_OUTPUT: &str = "\
+It is 3 if the standard output is closed or broken when something is to be printed, whatever else was found.
+";
+
+/// Runs what the words ask for. At the end all that was printed has left, or that is the mistake told.
 pub fn run(words: &[OsString], out: &mut dyn Write) -> Ended {
+    let ended = asked(words, out);
+    out.flush()?;
+    ended
+}
+
+fn asked(words: &[OsString], out: &mut dyn Write) -> Ended {
     let Some((first, rest)) = words.split_first() else {
-        return Err(Mistake::CommandLine("no command is named; try steamgusset --help".into()));
+        return Err(with_hint(Mistake::CommandLine("no command is named".into()), "--help"));
     };
-    match first.to_str() {
-        Some("--help" | "-h") => told(HELP, out),
-        Some("help") => help(rest, out),
-        Some("--version" | "-V") => told(concat!("steamgusset ", env!("CARGO_PKG_VERSION"), "\n"), out),
-        _ => subcommand(first, rest, out),
+    if let Some(command) = COMMANDS.iter().find(|command| first == command.name) {
+        return subcommand(command, rest, out)
+            .map_err(|mistake| with_hint(mistake, &format!("{} --help", command.name)));
     }
+    let ended = match first.to_str() {
+        Some("help" | "--help" | "-h") => help(rest, out),
+        Some("--version" | "-V") => version(rest, out),
+        _ => Err(no_such(first)),
+    };
+    ended.map_err(|mistake| with_hint(mistake, "--help"))
+}
+
+fn subcommand(command: &Command, rest: &[OsString], out: &mut dyn Write) -> Ended {
+    if arguments::asks_for_help(rest) { told_help(command.help, out) } else { (command.run)(rest, out) }
 }
 
 fn help(words: &[OsString], out: &mut dyn Write) -> Ended {
-    match words {
-        [] => told(HELP, out),
-        [name] => told(found(name)?.help, out),
-        _ => Err(Mistake::CommandLine("help takes one command; try steamgusset --help".into())),
-    }
+    let text = match words {
+        [] => HELP,
+        [name] => COMMANDS.iter().find(|command| name == command.name).ok_or_else(|| no_such(name))?.help,
+        [_, more, ..] => return Err(arguments::too_many("help takes one command", more)),
+    };
+    told_help(text, out)
 }
 
-fn subcommand(name: &OsString, rest: &[OsString], out: &mut dyn Write) -> Ended {
-    let command = found(name)?;
-    if arguments::asks_for_help(rest) {
-        return told(command.help, out);
+fn version(words: &[OsString], out: &mut dyn Write) -> Ended {
+    if let Some(more) = words.first() {
+        return Err(arguments::too_many("--version takes nothing", more));
     }
-    (command.run)(rest, out).map_err(|mistake| match mistake {
-        Mistake::CommandLine(why) => Mistake::CommandLine(format!("{why}; try steamgusset {} --help", command.name)),
+    let (major, minor) = steamgusset::version();
+    told(&format!("steamgusset {}, stage {major}.{minor}\n", env!("CARGO_PKG_VERSION")), out)
+}
+
+fn no_such(name: &OsString) -> Mistake {
+    Mistake::CommandLine(format!("there is no command {}", name.display()))
+}
+
+/// A mistake on the command line, with the words that print what helps.
+fn with_hint(mistake: Mistake, words: &str) -> Mistake {
+    match mistake {
+        Mistake::CommandLine(why) => Mistake::CommandLine(format!("{why}; try steamgusset {words}")),
         other => other,
-    })
+    }
 }
 
-fn found(name: &OsString) -> Result<&'static Command, Mistake> {
-    let command = COMMANDS.iter().find(|command| name == command.name);
-    command.ok_or_else(|| {
-        Mistake::CommandLine(format!("there is no command {}; try steamgusset --help", name.to_string_lossy()))
-    })
+fn told_help(help: &str, out: &mut dyn Write) -> Ended {
+    told(&format!("{help}{STATUS_OF_OUTPUT}"), out)
 }
 
 fn told(text: &str, out: &mut dyn Write) -> Ended {
     out.write_all(text.as_bytes())?;
-    out.flush()?;
     Ok(Status::Fine)
 }
 

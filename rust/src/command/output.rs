@@ -1,44 +1,84 @@
-//! Output files that are there whole or not at all.
+//! Output files that are there whole or not at all, and the standard output in the place of one.
 //!
-//! Each is written to a temporary name beside its target. Only when all are written do they take their names, so a
+//! Each file is written to a temporary name beside its target. Only when all are written do they take their names, so a
 //! failure leaves what was there before. A target that is no regular file, such as a pipe, is written as it is.
 
+use super::Mistake;
+use std::ffi::OsStr;
+use std::fmt::{self, Display, Formatter};
 use std::fs::{self, File};
 use std::io::{self, Write};
 use std::path::{Path, PathBuf};
 
-/// A file to be written: where, and what.
+/// Where an output goes.
+#[derive(PartialEq)]
+pub enum Target {
+    StandardOutput,
+    File(PathBuf),
+}
+
+impl Target {
+    /// The target as it is typed. A file that is really called `-` is `./-`.
+    pub fn typed(word: &OsStr) -> Target {
+        if word == "-" || word == "/dev/stdout" { Target::StandardOutput } else { Target::File(word.into()) }
+    }
+}
+
+impl Display for Target {
+    fn fmt(&self, to: &mut Formatter) -> fmt::Result {
+        match self {
+            Target::StandardOutput => to.write_str("standard output"),
+            Target::File(path) => path.display().fmt(to),
+        }
+    }
+}
+
+/// What is to be written, and where.
 pub struct Output {
-    pub target: PathBuf,
+    pub target: Target,
     pub bytes: Vec<u8>,
 }
 
-/// Writes all, or says why not. The input, and a target named twice, are never written over.
-pub fn write_all(outputs: &[Output], input: &Path) -> Result<(), String> {
-    let mut places = vec![resolved(input)];
-    for Output { target, .. } in outputs {
-        let place = resolved(target);
-        if place == places[0] {
-            return Err(format!("{}: this is the input, which is not written over", target.display()));
-        }
-        if places.contains(&place) {
-            return Err(format!("{}: two outputs have this name", target.display()));
-        }
-        places.push(place);
-    }
+/// Writes all, or says why not. The input, and a target named twice, are never written over. The files take their names
+/// when the standard output has what is meant for it, so that they are as they were if it cannot be written.
+pub fn write_all(outputs: &[Output], input: &Path, out: &mut dyn Write) -> Result<(), Mistake> {
+    apart(outputs, input).map_err(Mistake::Failed)?;
     let mut waiting = Vec::new();
-    for (output, place) in outputs.iter().zip(&places[1..]) {
-        let written = Waiting::write(place, &output.bytes);
-        waiting.push(written.map_err(|why| not_written(&output.target, &why))?);
+    for Output { target, bytes } in outputs {
+        if let Target::File(path) = target {
+            let written = Waiting::write(&resolved(path), bytes);
+            waiting.push((target, written.map_err(|why| not_written(target, &why))?));
+        }
     }
-    for (output, file) in outputs.iter().zip(waiting) {
-        file.take_name().map_err(|why| not_written(&output.target, &why))?;
+    for Output { bytes, .. } in outputs.iter().filter(|output| output.target == Target::StandardOutput) {
+        out.write_all(bytes)?;
+        out.flush()?;
+    }
+    for (target, file) in waiting {
+        file.take_name().map_err(|why| not_written(target, &why))?;
     }
     Ok(())
 }
 
-fn not_written(target: &Path, why: &io::Error) -> String {
-    format!("{}: the file cannot be written: {why}", target.display())
+/// Whether the files are apart from each other and from the input.
+fn apart(outputs: &[Output], input: &Path) -> Result<(), String> {
+    let (input, mut places) = (resolved(input), Vec::new());
+    for Output { target, .. } in outputs {
+        let Target::File(path) = target else { continue };
+        let place = resolved(path);
+        if place == input {
+            return Err(format!("{target}: this is the input, which is not written over"));
+        }
+        if places.contains(&place) {
+            return Err(format!("{target}: two outputs have this name"));
+        }
+        places.push(place);
+    }
+    Ok(())
+}
+
+fn not_written(target: &Target, why: &io::Error) -> Mistake {
+    Mistake::Failed(format!("{target}: the file cannot be written: {why}"))
 }
 
 /// The path without links. A file that is not there yet has a folder that is.

@@ -39,12 +39,13 @@ pub struct Run<'a> {
     deblocked: &'a [Vec<u16>; 3],
     sets: Vec<CtuSet>,
     bins: Vec<Bins>,
-    pub stage: Stage<'static>,
+    pub stage: Stage,
     /// Which blocks have been filtered, by component and number.
     filtered: Vec<Vec<bool>>,
     pub clock: Clock,
-    /// How often a block was asked for before it was ready.
-    pub early: usize,
+    /// How many blocks have been filtered, and how many of them before the last delivery so far.
+    done: usize,
+    pub before_delivery: usize,
 }
 
 impl<'a> Run<'a> {
@@ -56,7 +57,7 @@ impl<'a> Run<'a> {
         let bins = written(picture, &sets, &mut clock)?;
         let stage = opened(picture)?;
         let filtered = vec![vec![false; sets.len()]; picture.components() as usize];
-        Ok(Run { deblocked: &vector.deblocked, sets, bins, stage, filtered, clock, early: 0 })
+        Ok(Run { deblocked: &vector.deblocked, sets, bins, stage, filtered, clock, done: 0, before_delivery: 0 })
     }
 
     /// Does one step and asks for what it may have made ready. The answer is the blocks filtered.
@@ -91,6 +92,7 @@ impl<'a> Run<'a> {
     /// Delivers a CTB; it and its neighbours may be ready now.
     fn deliver(&mut self, component: u32, ctb: u32) -> Result<Vec<(u32, u32)>, String> {
         let samples = self.samples(component, ctb)?;
+        self.before_delivery = self.done;
         let answer = self.clock.time(|| self.stage.deliver(component, ctb, &samples));
         answer.map_err(|refusal| format!("delivering {} is {refusal}", block_name(component, ctb)))?;
         let sizes = self.stage.sizes();
@@ -116,10 +118,11 @@ impl<'a> Run<'a> {
         }
         match self.clock.time(|| self.stage.filter(component, ctb)) {
             Ok(()) => *done = true,
-            Err(Refusal::NotReady) => self.early += 1,
+            Err(Refusal::NotReady) => return Ok(false),
             Err(refusal) => return Err(format!("filtering {} is {refusal}", block_name(component, ctb))),
         }
-        Ok(*done)
+        self.done += 1;
+        Ok(true)
     }
 }
 
@@ -127,7 +130,7 @@ fn block_name(component: u32, ctb: u32) -> String {
     format!("CTB {ctb} of {}", NAMES[component as usize])
 }
 
-fn opened(picture: Picture) -> Result<Stage<'static>, String> {
+fn opened(picture: Picture) -> Result<Stage, String> {
     Stage::open(picture).map_err(|refusal| format!("opening the picture is {refusal}"))
 }
 

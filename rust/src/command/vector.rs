@@ -1,26 +1,58 @@
 //! The vector files: real pictures before and after sample adaptive offset.
 //!
-//! Method: the header alone says how long every other part is. So it is judged first, then the file's length once, and
-//! the parts are cut out of it; only then is anything made. A damaged file gives a sentence. The second program has a
-//! reader of its own; nothing is shared with it on purpose, since it judges this one.
+//! Method: the header alone says how long every other part is. So it is judged before anything else is read, and no more
+//! is read than it announces; the parts are cut out of that. Only then is anything made. The second program has a reader
+//! of its own; nothing is shared with it on purpose, since it judges this one.
 
-use super::header::{FIELDS, Header, numbers, within};
+mod segments;
+
+use super::header::{HEADER_BYTES, Header, numbers, outside};
+use segments::{Segments, Tiles};
+use std::cmp::Ordering;
+use std::fmt;
 use std::fs::File;
-use std::io::Read;
+use std::io::{self, Read};
 use std::path::Path;
 use steamgusset::{CtuSet, Offsets, Picture};
 
-const MARK: &[u8; 8] = b"SAOVEC1\0";
-const HEADER_BYTES: usize = MARK.len() + 4 * FIELDS;
-const SEGMENT_BYTES: usize = 24;
+/// The largest width and height of the stage.
+const LARGEST_SIDE: usize = 8192;
 
-/// A picture of a file, as far as the stage is asked about it.
+/// Why a file gives no picture to put through the stage.
+pub enum Unfit {
+    CannotBeRead(io::Error),
+    Damaged(String),
+    /// The picture has something that the stage does not cover yet.
+    NotCovered(String),
+}
+
+impl fmt::Display for Unfit {
+    fn fmt(&self, out: &mut fmt::Formatter) -> fmt::Result {
+        match self {
+            Unfit::CannotBeRead(why) => write!(out, "the file cannot be read: {why}"),
+            Unfit::Damaged(why) => out.write_str(why),
+            Unfit::NotCovered(why) => write!(out, "the stage does not cover the picture: {why}"),
+        }
+    }
+}
+
+impl From<io::Error> for Unfit {
+    fn from(why: io::Error) -> Unfit {
+        Unfit::CannotBeRead(why)
+    }
+}
+
+impl From<String> for Unfit {
+    fn from(why: String) -> Unfit {
+        Unfit::Damaged(why)
+    }
+}
+
+/// A picture that the stage covers.
 pub struct Vector {
     header: Header,
-    /// The two SAO flags of the first slice segment.
+    /// The two SAO flags of its slice.
     flags: [bool; 2],
-    /// Whether a lossless unit, or a PCM unit with its loop filtering disabled, keeps samples from the filter.
-    keeps: bool,
     /// Each CTU's three components in raster order, merges resolved.
     ctus: Vec<[Offsets; 3]>,
     pub deblocked: [Vec<u16>; 3],
@@ -28,64 +60,42 @@ pub struct Vector {
 }
 
 impl Vector {
-    /// The vector of a file, or a sentence that says why there is none.
-    pub fn read(path: &Path) -> Result<Vector, String> {
-        let told = |why: std::io::Error| format!("the file cannot be read: {why}");
-        let mut file = File::open(path).map_err(told)?;
-        let mut bytes = Vec::new();
-        // The mark first: a device without an end is not read to the end.
-        file.by_ref().take(MARK.len() as u64).read_to_end(&mut bytes).map_err(told)?;
-        marked(&bytes)?;
-        file.read_to_end(&mut bytes).map_err(told)?;
-        Vector::parse(&bytes)
-    }
-
-    fn parse(bytes: &[u8]) -> Result<Vector, String> {
-        marked(bytes)?;
-        let (start, rest) = bytes.split_at_checked(HEADER_BYTES).ok_or("the file ends within its header")?;
-        let header = Header::parse(&start[MARK.len()..])?;
-        let parts = Parts::cut(rest, &header)?;
-        tiles(parts.tiles, &header)?;
-        let flags = segments(parts.segments, &header)?;
-        let skip = parts.skip.iter().fold(0, |all, bits| all | bits);
-        if i32::from(skip) != header.skip {
-            return Err("the skip map is not what the header says of it".into());
+    /// The vector of a file. What is damaged is called so first: a picture is not covered only if its file is sound, as
+    /// far as it is read.
+    pub fn read(path: &Path) -> Result<Vector, Unfit> {
+        let mut file = File::open(path)?;
+        let header = Header::parse(&at_most(&mut file, HEADER_BYTES)?)?;
+        let announced = header.parts().iter().sum();
+        known_length(&file, announced)?;
+        if let Some(why) = too_large(&header) {
+            // It may be gigabytes, so it is not read.
+            return Err(Unfit::NotCovered(why));
         }
-        Ok(Vector {
-            flags,
-            keeps: skip & if header.pcm_loop_filter_disabled { 3 } else { 2 } != 0,
-            ctus: parts
-                .ctus
-                .chunks_exact(header.ctu_bytes())
-                .map(|ctu| sets(ctu, &header))
-                .collect::<Result<_, _>>()?,
-            deblocked: planes(parts.deblocked, &header, "deblocked")?,
-            expected: planes(parts.expected, &header, "final")?,
-            header,
-        })
+        // The byte more shows whether the file goes on.
+        let rest = at_most(&mut file, announced + 1)?;
+        has_length(rest.len(), announced)?;
+        Vector::parse(header, &rest)
     }
 
-    /// Why the stage does not cover the picture yet, or nothing if it does.
-    pub fn not_covered(&self) -> Option<&'static str> {
-        let header = &self.header;
-        let reasons = [
-            (header.format == 2, "its format is 4:2:2"),
-            (header.format == 3, "its format is 4:4:4"),
-            (header.depths[0] != header.depths[1], "it has two depths"),
-            (
-                header.depths[0] > 10,
-                "its depth is above 10, where the 2013 rule shifts offsets and its stream does not",
-            ),
-            (header.segments > 1, "it has several slice segments"),
-            (header.tiles != [1, 1], "it has several tiles"),
-            (self.keeps, "it has samples kept from the filter"),
-            (header.scales != [0, 0], "its offsets have a scale"),
-            (header.width > 8192 || header.height > 8192, "it is wider or higher than 8192"),
-        ];
-        reasons.into_iter().find_map(|(holds, why)| holds.then_some(why))
+    /// The vector of the bytes after the header, which are as many as it announces.
+    fn parse(header: Header, bytes: &[u8]) -> Result<Vector, Unfit> {
+        let parts = Parts::cut(bytes, &header);
+        let tiles = Tiles::parse(parts.tiles, &header)?;
+        let segments = Segments::parse(parts.segments, &tiles, &header)?;
+        let ctus = ctus(parts.ctus, &segments, &tiles, &header)?;
+        let skip = parts.skip.iter().fold(0, |all, bits| all | bits);
+        if skip != header.skip {
+            return Err(format!("the OR of the skip map is {skip}, but the header says {}", header.skip).into());
+        }
+        let deblocked = planes(parts.deblocked, &header, "deblocked")?;
+        let expected = planes(parts.expected, &header, "final")?;
+        match not_covered(&header, &segments) {
+            Some(why) => Err(Unfit::NotCovered(why)),
+            None => Ok(Vector { flags: segments.flags, ctus, deblocked, expected, header }),
+        }
     }
 
-    /// The description of a picture that the stage covers: its one segment's flags are the two switches.
+    /// The picture's description: its slice's flags are the two switches.
     pub fn picture(&self) -> Picture {
         let header = &self.header;
         let [luma, chroma] = self.flags.map(|flag| flag && header.sao_enabled);
@@ -100,7 +110,7 @@ impl Vector {
         }
     }
 
-    /// The sets of a picture that the stage covers. Where a switch is off nothing is coded, which means off.
+    /// The picture's sets. Where a switch is off nothing is coded, which means off.
     pub fn sets(&self) -> Vec<CtuSet> {
         let Picture { luma, chroma, .. } = self.picture();
         let switched = |on: bool, offsets: Offsets| if on { offsets } else { Offsets::Off };
@@ -113,8 +123,68 @@ impl Vector {
     }
 }
 
-fn marked(bytes: &[u8]) -> Result<(), String> {
-    if bytes.starts_with(MARK) { Ok(()) } else { Err("the file does not begin with the mark SAOVEC1".into()) }
+/// The next bytes, so many or as many as there are. The room grows with what is read, whatever was announced.
+fn at_most(file: &mut File, count: usize) -> io::Result<Vec<u8>> {
+    let mut bytes = Vec::new();
+    file.take(count as u64).read_to_end(&mut bytes)?;
+    Ok(bytes)
+}
+
+/// Judges how many bytes there are after the header.
+fn has_length(has: usize, announced: usize) -> Result<(), String> {
+    let (has, all) = (HEADER_BYTES + has, HEADER_BYTES + announced);
+    match has.cmp(&all) {
+        Ordering::Less => Err(format!("the file ends after {has} of the {all} bytes that its header announces")),
+        Ordering::Equal => Ok(()),
+        Ordering::Greater => Err(format!("the file goes on after the {all} bytes that its header announces")),
+    }
+}
+
+/// Judges a file's length before the rest is read, where the system knows it.
+fn known_length(file: &File, announced: usize) -> Result<(), Unfit> {
+    let known = file.metadata()?;
+    if known.is_file() {
+        has_length((known.len() as usize).saturating_sub(HEADER_BYTES), announced)?;
+    }
+    Ok(())
+}
+
+fn too_large(header: &Header) -> Option<String> {
+    let Header { width, height, .. } = header;
+    (width.max(height) > &LARGEST_SIDE).then(|| format!("its size is {width}x{height}, above {LARGEST_SIDE}"))
+}
+
+/// What the picture has that the stage does not cover yet, or nothing.
+fn not_covered(header: &Header, segments: &Segments) -> Option<String> {
+    let [luma, chroma] = header.depths;
+    let reasons = [
+        (header.format == 2, "its format is 4:2:2".into()),
+        (header.format == 3 && header.planes() == 3, "its format is 4:4:4".into()),
+        (header.format == 3, "its format is 4:4:4 with planes coded apart".into()),
+        (header.planes() == 3 && luma != chroma, format!("it has two depths, luma {luma} and chroma {chroma}")),
+        (other_scale(header), scales(header)),
+        (segments.slices > 1, "it has several slices".into()),
+        (header.tiles != [1, 1], "it has several tiles".into()),
+        (header.skip & 2 != 0, "it has lossless units, which keep their samples".into()),
+        (
+            header.skip & 1 != 0 && header.pcm_loop_filter_disabled,
+            "it has PCM units whose loop filtering is disabled".into(),
+        ),
+    ];
+    reasons.into_iter().find_map(|(holds, why)| holds.then_some(why))
+}
+
+/// Whether a scale is sent that is not the 2013 rule's, which is the stage's. In monochrome no chroma offset is sent.
+fn other_scale(header: &Header) -> bool {
+    let mut components = header.scales.iter().zip(header.depths).take(header.planes());
+    components.any(|(scale, depth)| *scale != depth.saturating_sub(10))
+}
+
+fn scales(header: &Header) -> String {
+    let ([luma, chroma], depth) = (header.scales, header.depths[0]);
+    let chroma = if header.planes() == 3 { format!(" and {chroma} for chroma") } else { String::new() };
+    let stage = depth.saturating_sub(10);
+    format!("its offsets are sent with scale {luma} for luma{chroma}; at depth {depth} the stage has {stage}")
 }
 
 /// The parts after the header, cut but not read.
@@ -128,83 +198,51 @@ struct Parts<'a> {
 }
 
 impl<'a> Parts<'a> {
-    fn cut(bytes: &'a [u8], header: &Header) -> Result<Parts<'a>, String> {
-        let samples: usize = (0..3).map(|component| header.plane_samples(component)).sum();
-        let lengths = [
-            4 * (header.tiles[0] + 1 + header.tiles[1] + 1),
-            SEGMENT_BYTES * header.segments,
-            header.ctu_bytes() * header.columns * header.rows,
-            (header.width >> header.min_cb_log2) * (header.height >> header.min_cb_log2),
-            2 * samples,
-            2 * samples,
-        ];
-        let wanted: usize = lengths.iter().sum();
-        if bytes.len() != wanted {
-            let (has, wanted) = (HEADER_BYTES + bytes.len(), HEADER_BYTES + wanted);
-            return Err(format!("the file has {has} bytes, but its header asks for {wanted}"));
-        }
+    fn cut(bytes: &'a [u8], header: &Header) -> Parts<'a> {
         let mut rest = bytes;
-        let [tiles, segments, ctus, skip, deblocked, expected] = lengths.map(|length| {
+        let [tiles, segments, ctus, skip, deblocked, expected] = header.parts().map(|length| {
             let (part, after) = rest.split_at(length);
             rest = after;
             part
         });
-        Ok(Parts { tiles, segments, ctus, skip, deblocked, expected })
+        Parts { tiles, segments, ctus, skip, deblocked, expected }
     }
 }
 
-/// Judges the tile boundaries: columns, then rows, each from 0, rising, to the last CTB.
-fn tiles(bytes: &[u8], header: &Header) -> Result<(), String> {
-    let all: Vec<i32> = numbers(bytes).collect();
-    let (columns, rows) = all.split_at(header.tiles[0] + 1);
-    let divides = |list: &[i32], last: usize| {
-        list.first() == Some(&0) && list.last() == Some(&(last as i32)) && list.is_sorted_by(|one, next| one < next)
-    };
-    if divides(columns, header.columns) && divides(rows, header.rows) {
-        Ok(())
-    } else {
-        Err("the tile boundaries do not divide the picture".into())
-    }
-}
-
-/// The two SAO flags of the first slice segment. All are judged.
-fn segments(bytes: &[u8], header: &Header) -> Result<[bool; 2], String> {
-    let last = (header.columns * header.rows) as i32 - 1;
-    let mut first = None;
-    for segment in bytes.chunks_exact(SEGMENT_BYTES) {
-        let numbers: Vec<i32> = numbers(segment).collect();
-        let addresses = numbers[..2].iter().all(|address| (0..=last).contains(address));
-        if !addresses || numbers[2..].iter().any(|flag| !(0..=1).contains(flag)) {
-            return Err("a slice segment has an address or a flag that it cannot have".into());
+/// Each CTU's components. It must say the slice segment that it lies in.
+fn ctus(bytes: &[u8], segments: &Segments, tiles: &Tiles, header: &Header) -> Result<Vec<[Offsets; 3]>, String> {
+    let mut all = Vec::new();
+    for (ctu, bytes) in bytes.chunks_exact(header.ctu_bytes()).enumerate() {
+        let (segment, components) = bytes.split_at(4);
+        let right = segments.holding(ctu, tiles) as i32;
+        for said in numbers(segment) {
+            let wrong = outside(said, right, right);
+            wrong.map_or(Ok(()), |how| Err(format!("the slice segment of CTU {ctu} is {said}, {how}")))?;
         }
-        first = first.or(Some([numbers[3] == 1, numbers[4] == 1]));
+        all.push(sets(components).map_err(|why| format!("CTU {ctu} {why}"))?);
     }
-    first.ok_or_else(|| "there is no slice segment".into())
+    Ok(all)
 }
 
 /// One CTU's components; an absent one is off.
-fn sets(ctu: &[u8], header: &Header) -> Result<[Offsets; 3], String> {
-    let (segment, components) = ctu.split_at(4);
-    for segment in numbers(segment) {
-        within(segment, 0, header.segments as i32 - 1, "slice segment of a CTU")?;
-    }
+fn sets(bytes: &[u8]) -> Result<[Offsets; 3], String> {
     let mut all = [Offsets::Off; 3];
-    for (offsets, bytes) in all.iter_mut().zip(components.chunks_exact(8)) {
+    for (offsets, bytes) in all.iter_mut().zip(bytes.chunks_exact(8)) {
         *offsets = component(bytes)?;
     }
     Ok(all)
 }
 
 fn component(bytes: &[u8]) -> Result<Offsets, String> {
-    let &[kind, position, class, _, one, two, three, four] = bytes else {
-        return Err("a set is cut short".into());
+    let &[kind, position, class, 0, one, two, three, four] = bytes else {
+        return Err("has a set whose fourth byte is not 0".into());
     };
     let offsets = [one, two, three, four].map(|byte| byte as i8);
     match kind {
         0 => Ok(Offsets::Off),
         1 => Ok(Offsets::Band { position, offsets }),
         2 => Ok(Offsets::Edge { class, offsets }),
-        other => Err(format!("a CTU has type {other}, which is none of 0, 1 and 2")),
+        other => Err(format!("has type {other}, which is none of 0, 1 and 2")),
     }
 }
 
@@ -216,8 +254,8 @@ fn planes(bytes: &[u8], header: &Header, which: &str) -> Result<[Vec<u16>; 3], S
         rest = after;
         *plane = own.as_chunks().0.iter().map(|pair| u16::from_le_bytes(*pair)).collect();
         let largest = u16::MAX >> (16 - header.depths[component.min(1)]);
-        if plane.iter().any(|sample| *sample > largest) {
-            return Err(format!("a {which} plane has a sample above its depth"));
+        if let Some(sample) = plane.iter().find(|sample| **sample > largest) {
+            return Err(format!("a {which} plane has the sample {sample}, above {largest}"));
         }
     }
     Ok(planes)

@@ -1,0 +1,111 @@
+//! The tiles and slice segments of a vector file, judged by what H.265 says of their addresses.
+//!
+//! Method: a CTB's place in decoding order is four numbers, compared one after another. So segments begin at rising
+//! places, and a CTB lies in the last one that begins no later.
+
+use super::super::header::{Header, SEGMENT_BYTES, array, numbers, outside};
+
+/// A CTB's place in decoding order: its tile's row and column, its own row and column (6.5.1).
+type Place = [usize; 4];
+
+/// The tile boundaries in CTBs.
+pub struct Tiles {
+    columns: Vec<i32>,
+    rows: Vec<i32>,
+    /// CTB columns of the picture.
+    width: usize,
+}
+
+impl Tiles {
+    pub fn parse(bytes: &[u8], header: &Header) -> Result<Tiles, String> {
+        let mut columns: Vec<i32> = numbers(bytes).collect();
+        let rows = columns.split_off(header.tiles[0] + 1);
+        divide(&columns, header.columns, "column")?;
+        divide(&rows, header.rows, "row")?;
+        Ok(Tiles { columns, rows, width: header.columns })
+    }
+
+    fn place(&self, ctb: usize) -> Place {
+        let (row, column) = (ctb / self.width, ctb % self.width);
+        let tile = |bounds: &[i32], at: usize| bounds.partition_point(|bound| *bound as usize <= at);
+        [tile(&self.rows, row), tile(&self.columns, column), row, column]
+    }
+}
+
+/// Judges the boundaries of tile columns or rows: from 0, rising, to the last CTB.
+fn divide(bounds: &[i32], last: usize, which: &str) -> Result<(), String> {
+    let ends = bounds.first() == Some(&0) && bounds.last() == Some(&(last as i32));
+    if ends && bounds.is_sorted_by(|one, next| one < next) {
+        Ok(())
+    } else {
+        Err(format!("the tile {which} boundaries do not rise from 0 to {last}"))
+    }
+}
+
+/// The slice segments, as far as a rule here needs them.
+pub struct Segments {
+    /// Where each begins.
+    starts: Vec<Place>,
+    pub slices: usize,
+    /// slice_sao_luma_flag and slice_sao_chroma_flag of the first slice.
+    pub flags: [bool; 2],
+}
+
+/// The names of a segment's six numbers.
+const NAMES: [&str; 6] = [
+    "slice_segment_address",
+    "SliceAddrRs",
+    "dependent_slice_segment_flag",
+    "slice_sao_luma_flag",
+    "slice_sao_chroma_flag",
+    "slice_loop_filter_across_slices_enabled_flag",
+];
+
+impl Segments {
+    pub fn parse(bytes: &[u8], tiles: &Tiles, header: &Header) -> Result<Segments, String> {
+        let last_ctb = (header.columns * header.rows) as i32 - 1;
+        let mut all: Vec<[i32; 6]> = Vec::new();
+        let mut starts: Vec<Place> = Vec::new();
+        for (number, bytes) in bytes.chunks_exact(SEGMENT_BYTES).enumerate() {
+            let segment = array(bytes);
+            judge(&segment, all.last(), last_ctb).map_err(|why| format!("slice segment {number} has {why}"))?;
+            let start = tiles.place(segment[0] as usize);
+            if starts.last().is_some_and(|before| *before >= start) {
+                return Err(format!("slice segment {number} begins no later than the one before it"));
+            }
+            all.push(segment);
+            starts.push(start);
+        }
+        let slices = all.iter().filter(|segment| segment[2] == 0).count();
+        let flags = all.first().map_or([false; 2], |first| [first[3] == 1, first[4] == 1]);
+        Ok(Segments { starts, slices, flags })
+    }
+
+    /// The number of the segment that a CTB lies in.
+    pub fn holding(&self, ctb: usize, tiles: &Tiles) -> usize {
+        let place = tiles.place(ctb);
+        // The first one begins at CTB 0, which no place is before.
+        self.starts.partition_point(|start| *start <= place) - 1
+    }
+}
+
+/// Judges a segment's numbers one after another (7.4.7.1). A dependent one has the slice address and the flags of the one
+/// before it; the first is independent and begins at CTB 0.
+fn judge(segment: &[i32; 6], before: Option<&[i32; 6]>, last_ctb: i32) -> Result<(), String> {
+    let [address, _, dependent, ..] = *segment;
+    let slice = if dependent == 1 { before } else { None };
+    let exactly = |number: i32| [number, number];
+    let flag = |place: usize| slice.map_or([0, 1], |slice| exactly(slice[place]));
+    let limits = [
+        before.map_or([0, 0], |_| [0, last_ctb]),
+        exactly(slice.map_or(address, |slice| slice[1])),
+        before.map_or([0, 0], |_| [0, 1]),
+        flag(3),
+        flag(4),
+        flag(5),
+    ];
+    for ((name, number), [least, most]) in NAMES.iter().zip(segment).zip(limits) {
+        outside(*number, least, most).map_or(Ok(()), |how| Err(format!("{name} {number}, {how}")))?;
+    }
+    Ok(())
+}

@@ -1,0 +1,509 @@
+//! Vector files as `steamgusset` meets them: covered or not, damaged, without an end, or not to be read.
+
+mod folders;
+
+use second::filter_picture;
+use second::random::Random;
+use second::vectors::Vector;
+use std::fs::{self, File};
+use std::io::Read;
+use std::path::{Path, PathBuf};
+use std::process::{Command, Stdio};
+
+/// Exit status, standard output, error stream.
+type Ran = (Option<i32>, String, String);
+
+const COMMAND: &str = env!("CARGO_BIN_EXE_steamgusset");
+
+fn ran(command: &mut Command) -> Ran {
+    let ran = command.output().expect("the command runs");
+    let text = |bytes: Vec<u8>| String::from_utf8(bytes).expect("text");
+    (ran.status.code(), text(ran.stdout), text(ran.stderr))
+}
+
+fn check(file: &Path) -> Ran {
+    ran(Command::new(COMMAND).arg("check").arg(file).stdin(Stdio::null()))
+}
+
+/// The command with 256 MB of memory.
+fn check_in_little_memory(file: &Path) -> Ran {
+    let limited = "ulimit -v 262144 && exec \"$0\" check \"$1\"";
+    ran(Command::new("sh").args(["-c", limited, COMMAND]).arg(file).stdin(Stdio::null()))
+}
+
+/// A folder of the test's own, empty.
+fn folder(name: &str) -> PathBuf {
+    folders::empty(&format!("files-{name}"))
+}
+
+fn file(folder: &Path, name: &str, bytes: &[u8]) -> PathBuf {
+    let path = folder.join(name);
+    fs::write(&path, bytes).expect("a file for the test");
+    path
+}
+
+fn bundled(name: &str) -> Vec<u8> {
+    let path = Path::new(env!("CARGO_MANIFEST_DIR")).join("../vectors").join(name);
+    fs::read(path).expect("a bundled vector")
+}
+
+/// 4:2:0, depth 8, 72x56 with CTB size 16: five columns and four rows of CTBs.
+fn twenty_ctus() -> Vec<u8> {
+    bundled("x_420_8_72x56_ctu16-001.sao")
+}
+
+/// Monochrome, depth 12, with offsets sent as the 2013 rule scales them.
+fn scaled() -> Vec<u8> {
+    bundled("s_400_12_scale-000.sao")
+}
+
+fn tiny() -> Vec<u8> {
+    bundled("s_420_8_tiny8x8_ctb4-001.sao")
+}
+
+const HEADER: usize = 8 + 4 * 32;
+/// Where the one segment and the CTUs of a file with one tile and one segment begin.
+const SEGMENT: usize = HEADER + 4 * 4;
+const CTUS: usize = SEGMENT + 24;
+
+fn put(bytes: &mut [u8], place: usize, number: i32) {
+    bytes[place..place + 4].copy_from_slice(&number.to_le_bytes());
+}
+
+/// With the header's fields changed.
+fn with(mut bytes: Vec<u8>, fields: &[(usize, i32)]) -> Vec<u8> {
+    fields.iter().for_each(|(field, number)| put(&mut bytes, 8 + 4 * field, *number));
+    bytes
+}
+
+/// The picture of twenty CTUs in two segments. The second begins at a CTU with these five numbers more.
+fn segmented(ctu: usize, second: [i32; 5]) -> Vec<u8> {
+    let mut bytes = with(twenty_ctus(), &[(15, 2)]);
+    (ctu..20).for_each(|ctu| put(&mut bytes, CTUS + 28 * ctu, 1));
+    let numbers = [[ctu as i32].as_slice(), &second].concat();
+    bytes.splice(CTUS..CTUS, numbers.iter().flat_map(|number| number.to_le_bytes()));
+    bytes
+}
+
+/// The flags of the one slice of that picture: luma, chroma, across slices.
+const FLAGS: [i32; 3] = [1, 1, 0];
+
+fn second_segment(slice_address: i32, dependent: i32) -> [i32; 5] {
+    [slice_address, dependent, FLAGS[0], FLAGS[1], FLAGS[2]]
+}
+
+fn agrees(name: &str, bytes: &[u8]) {
+    let (status, lines, error) = check(&file(&folder(name), "covered.sao", bytes));
+    assert_eq!((status, error.as_str()), (Some(0), ""), "{lines}");
+    assert!(lines.contains(": agrees\n1 agree, 0 differ, 0 not covered, 0 damaged, 0 cannot be read;"), "{lines}");
+}
+
+fn is_not_covered(name: &str, bytes: &[u8], why: &str) {
+    let folder = folder(name);
+    let path = file(&folder, "not-covered.sao", bytes);
+    let (status, lines, error) = check(&path);
+    assert_eq!((status, error.as_str()), (Some(0), ""), "{why}: {lines}");
+    let counts = "0 agree, 0 differ, 1 not covered, 0 damaged, 0 cannot be read";
+    assert_eq!(lines, format!("{}  not covered: {why}\n{counts}\n", path.display()));
+    let filter = ran(Command::new(COMMAND).arg("filter").arg(&path).arg("-o").arg(folder.join("out.yuv")));
+    let sentence = format!("steamgusset: {}: the stage does not cover the picture: {why}\n", path.display());
+    assert_eq!(filter, (Some(1), String::new(), sentence));
+    assert!(!folder.join("out.yuv").exists());
+}
+
+fn is_damaged(name: &str, bytes: &[u8], why: &str) {
+    let path = file(&folder(name), "damaged.sao", bytes);
+    is_damage(check(&path), &path, why);
+}
+
+fn is_damage((status, lines, error): Ran, path: &Path, why: &str) {
+    assert_eq!((status, error), (Some(1), format!("steamgusset: {}: {why}\n", path.display())));
+    assert_eq!(lines, "0 agree, 0 differ, 0 not covered, 1 damaged, 0 cannot be read\n");
+}
+
+// Covered or not
+
+#[test]
+fn above_10_bits_the_2013_scale_is_covered() {
+    agrees("scaled", &scaled());
+    // Chroma's scale and depth mean nothing where there is no chroma.
+    agrees("scaled-chroma", &with(scaled(), &[(4, 8), (10, 0)]));
+    for (luma, name) in [(0, "scale-0"), (1, "scale-1")] {
+        let why = format!("its offsets are sent with scale {luma} for luma; at depth 12 the stage has 2");
+        is_not_covered(name, &with(scaled(), &[(9, luma)]), &why);
+    }
+}
+
+/// A file of depth 8 made one of another depth and the scales given, its final planes by the 2013 rule.
+fn deepened(depth: i32, luma: i32, chroma: i32) -> Vec<u8> {
+    let mut bytes = with(twenty_ctus(), &[(3, depth), (4, depth), (9, luma), (10, chroma)]);
+    let vector = Vector::parse(&bytes).expect("a sound file");
+    let planes = filter_picture(&vector.picture(), &vector.sets(), vector.deblocked.each_ref().map(Vec::as_slice));
+    let samples: Vec<u8> = planes.iter().flatten().flat_map(|sample| sample.to_le_bytes()).collect();
+    let end = bytes.len() - samples.len();
+    bytes.truncate(end);
+    bytes.extend(samples);
+    bytes
+}
+
+#[test]
+fn above_10_bits_both_scales_count_where_there_is_chroma() {
+    agrees("deep-11", &deepened(11, 1, 1));
+    agrees("deep-16", &deepened(16, 6, 6));
+    for (luma, chroma, name) in [(0, 0, "deep-0-0"), (2, 1, "deep-2-1"), (1, 2, "deep-1-2")] {
+        let sent = format!("its offsets are sent with scale {luma} for luma and {chroma} for chroma");
+        is_not_covered(name, &deepened(12, luma, chroma), &format!("{sent}; at depth 12 the stage has 2"));
+    }
+}
+
+#[test]
+fn a_slice_of_several_segments_is_covered() {
+    for ctu in [1, 5, 7, 19] {
+        agrees(&format!("dependent-{ctu}"), &segmented(ctu, second_segment(0, 1)));
+        let slices = segmented(ctu, second_segment(ctu as i32, 0));
+        is_not_covered(&format!("independent-{ctu}"), &slices, "it has several slices");
+    }
+}
+
+/// The picture of twenty CTUs with tiles of two and three columns, in one slice whose segments begin at these CTUs.
+fn tiled(starts: [usize; 3]) -> Vec<u8> {
+    let mut bytes = with(twenty_ctus(), &[(13, 2), (15, 3)]);
+    // Decoded tile after tile: the columns 0 and 1 of all rows, then 2 to 4.
+    let tile = |columns: std::ops::Range<usize>| (0..4).flat_map(move |row| columns.clone().map(move |x| 5 * row + x));
+    let mut segment = -1;
+    for ctu in tile(0..2).chain(tile(2..5)) {
+        segment += i32::from(starts.contains(&ctu));
+        put(&mut bytes, CTUS + 28 * ctu, segment);
+    }
+    let segments = starts[1..].iter().flat_map(|start| [*start as i32, 0, 1, FLAGS[0], FLAGS[1], FLAGS[2]]);
+    bytes.splice(CTUS..CTUS, segments.flat_map(i32::to_le_bytes));
+    bytes.splice(HEADER + 4..HEADER + 4, 2i32.to_le_bytes());
+    bytes
+}
+
+#[test]
+fn segments_follow_each_other_tile_after_tile() {
+    // In raster order CTU 2 comes before CTU 5, but its tile comes after.
+    let sound = tiled([0, 5, 2]);
+    assert!(Vector::parse(&sound).is_ok());
+    is_not_covered("tiled", &sound, "it has several tiles");
+    let swapped = tiled([0, 2, 5]);
+    assert!(Vector::parse(&swapped).is_err());
+    is_damaged("tiled-swapped", &swapped, "slice segment 2 begins no later than the one before it");
+}
+
+#[test]
+fn what_is_not_covered_is_said() {
+    // Two tile columns of the five CTB columns.
+    let mut tiles = with(twenty_ctus(), &[(13, 2)]);
+    tiles.splice(HEADER + 4..HEADER + 4, 2i32.to_le_bytes());
+    // The skip map ends where the planes, twice, begin.
+    let kept = |bit: u8, fields: &[(usize, i32)]| {
+        let mut bytes = with(twenty_ctus(), fields);
+        let last = bytes.len() - 2 * 2 * (72 * 56 * 3 / 2) - 1;
+        bytes[last] |= bit;
+        bytes
+    };
+    // In 4:2:2 a chroma plane has half of luma's samples, in 4:4:4 as many.
+    let longer = |format: i32, samples: usize| {
+        let mut bytes = with(twenty_ctus(), &[(2, format), (24, format)]);
+        bytes.extend(vec![0; 2 * 2 * (samples - 72 * 56 * 3 / 2)]);
+        bytes
+    };
+    let pcm = kept(1, &[(23, 1)]);
+    agrees("pcm", &pcm);
+    let pictures: [(&str, Vec<u8>, &str); 7] = [
+        ("tiles", tiles, "it has several tiles"),
+        ("422", longer(2, 72 * 56 * 2), "its format is 4:2:2"),
+        ("444", longer(3, 72 * 56 * 3), "its format is 4:4:4"),
+        ("apart", with(scaled(), &[(2, 3)]), "its format is 4:4:4 with planes coded apart"),
+        ("depths", with(twenty_ctus(), &[(4, 9)]), "it has two depths, luma 8 and chroma 9"),
+        ("lossless", kept(2, &[(23, 2)]), "it has lossless units, which keep their samples"),
+        ("pcm", with(pcm, &[(11, 1)]), "it has PCM units whose loop filtering is disabled"),
+    ];
+    for (name, bytes, why) in pictures {
+        is_not_covered(&format!("not-covered-{name}"), &bytes, why);
+    }
+}
+
+// Headers
+
+/// The header of a picture with these sides and CTB size 16.
+fn header(width: i32, height: i32) -> Vec<u8> {
+    let ctbs = |side: i32| (side + 15) / 16;
+    with(twenty_ctus()[..HEADER].to_vec(), &[(0, width), (1, height), (7, ctbs(width)), (8, ctbs(height))])
+}
+
+#[test]
+fn a_bad_header_field_is_named() {
+    let fields: [(&[(usize, i32)], &str); 25] = [
+        (&[(0, i32::MAX)], "0, width, is 2147483647, outside 8 to 65528"),
+        (&[(0, 76)], "0, width, is 76, no multiple of 8 (MinCbLog2SizeY 3)"),
+        (&[(1, 0)], "1, height, is 0, outside 8 to 65528"),
+        (&[(1, 60)], "1, height, is 60, no multiple of 8 (MinCbLog2SizeY 3)"),
+        (&[(2, 4)], "2, chroma_format_idc, is 4, outside 0 to 3"),
+        (&[(3, 7)], "3, BitDepthY, is 7, outside 8 to 16"),
+        (&[(4, 17)], "4, BitDepthC, is 17, outside 8 to 16"),
+        (&[(5, 3)], "5, CtbLog2SizeY, is 3, outside 4 to 6"),
+        (&[(6, 5)], "6, MinCbLog2SizeY, is 5, outside 3 to 4 (CtbLog2SizeY 4)"),
+        (&[(7, 6)], "7, CTB columns, is 6, not 5 (width 72, CtbLog2SizeY 4)"),
+        (&[(8, 3)], "8, CTB rows, is 3, not 4 (height 56, CtbLog2SizeY 4)"),
+        (&[(9, 1)], "9, log2_sao_offset_scale_luma, is 1, not 0 (BitDepthY 8)"),
+        (&[(4, 12), (10, 3)], "10, log2_sao_offset_scale_chroma, is 3, outside 0 to 2 (BitDepthC 12)"),
+        (&[(11, -1)], "11, pcm_loop_filter_disabled_flag, is -1, outside 0 to 1"),
+        (&[(12, 2)], "12, loop_filter_across_tiles_enabled_flag, is 2, outside 0 to 1"),
+        (&[(13, 6)], "13, tile columns, is 6, outside 1 to 5 (CTB columns 5)"),
+        (&[(14, 5)], "14, tile rows, is 5, outside 1 to 4 (CTB rows 4)"),
+        (&[(15, 21)], "15, slice segments, is 21, outside 1 to 20 (CTB columns 5, CTB rows 4)"),
+        (&[(18, 8)], "18, cropping, is 8, not 0"),
+        (&[(21, i32::MIN)], "21, cropping, is -2147483648, not 0"),
+        (&[(22, 2)], "22, sample_adaptive_offset_enabled_flag, is 2, outside 0 to 1"),
+        (&[(23, 4)], "23, OR of the skip map, is 4, outside 0 to 3"),
+        (&[(24, 3)], "24, ChromaArrayType, is 3, not 1 (chroma_format_idc 1)"),
+        (&[(2, 3), (24, 1)], "24, ChromaArrayType, is 1, neither 0 nor 3 (chroma_format_idc 3)"),
+        (&[(31, 1)], "31, reserved, is 1, not 0"),
+    ];
+    for (number, (fields, why)) in fields.into_iter().enumerate() {
+        let (name, why) = (format!("header-{number}"), format!("header field {why}"));
+        is_damaged(&name, &with(twenty_ctus(), fields), &why);
+        // The header is judged alone: nothing after it is needed.
+        is_damaged(&name, &with(twenty_ctus(), fields)[..HEADER], &why);
+    }
+    is_damaged("no-mark", b"", "the file does not begin with the mark SAOVEC1");
+    is_damaged(
+        "other-mark",
+        &[b"SAOVEC2\0", &twenty_ctus()[8..]].concat(),
+        "the file does not begin with the mark SAOVEC1",
+    );
+    is_damaged("cut", &twenty_ctus()[..100], "the file ends within its header, after 100 of 136 bytes");
+}
+
+#[test]
+fn the_parts_are_judged() {
+    let changed = |place: usize, number: i32| {
+        let mut bytes = twenty_ctus();
+        put(&mut bytes, place, number);
+        bytes
+    };
+    let with_bytes = |place: usize, new: &[u8]| {
+        let mut bytes = twenty_ctus();
+        bytes[place..place + new.len()].copy_from_slice(new);
+        bytes
+    };
+    let planes = twenty_ctus().len() - 2 * 2 * (72 * 56 * 3 / 2);
+    let misplaced = |ctu: usize| {
+        let mut bytes = segmented(7, second_segment(0, 1));
+        put(&mut bytes, CTUS + 24 + 28 * ctu, 0);
+        bytes
+    };
+    let damaged: [(Vec<u8>, &str); 17] = [
+        (changed(HEADER, 1), "the tile column boundaries do not rise from 0 to 5"),
+        (changed(HEADER + 12, 3), "the tile row boundaries do not rise from 0 to 4"),
+        (changed(SEGMENT, 5), "slice segment 0 has slice_segment_address 5, not 0"),
+        (changed(SEGMENT + 4, 5), "slice segment 0 has SliceAddrRs 5, not 0"),
+        (changed(SEGMENT + 8, 1), "slice segment 0 has dependent_slice_segment_flag 1, not 0"),
+        (changed(SEGMENT + 12, 2), "slice segment 0 has slice_sao_luma_flag 2, outside 0 to 1"),
+        (segmented(7, second_segment(7, 1)), "slice segment 1 has SliceAddrRs 7, not 0"),
+        (segmented(7, second_segment(0, 0)), "slice segment 1 has SliceAddrRs 0, not 7"),
+        (segmented(7, [0, 1, 1, 0, 0]), "slice segment 1 has slice_sao_chroma_flag 0, not 1"),
+        (segmented(20, second_segment(0, 1)), "slice segment 1 has slice_segment_address 20, outside 0 to 19"),
+        (segmented(0, second_segment(0, 1)), "slice segment 1 begins no later than the one before it"),
+        (misplaced(7), "the slice segment of CTU 7 is 0, not 1"),
+        (with_bytes(CTUS + 4, &[3]), "CTU 0 has type 3, which is none of 0, 1 and 2"),
+        (with_bytes(CTUS + 28 + 7, &[9]), "CTU 1 has a set whose fourth byte is not 0"),
+        (with_bytes(CTUS + 4, &[1, 40]), "writing the set of CTU 0 is refused 12: no bins mean this set"),
+        (with_bytes(planes - 1, &[1]), "the OR of the skip map is 1, but the header says 0"),
+        (with_bytes(planes, &[0, 1]), "a deblocked plane has the sample 256, above 255"),
+    ];
+    for (number, (bytes, why)) in damaged.iter().enumerate() {
+        is_damaged(&format!("part-{number}"), bytes, why);
+    }
+}
+
+// Lengths
+
+#[test]
+fn no_more_is_read_than_the_header_announces() {
+    let folder = folder("long");
+    let goes_on = "the file goes on after the 24991 bytes that its header announces";
+    is_damaged("longer", &[twenty_ctus(), vec![0]].concat(), goes_on);
+    is_damaged(
+        "shorter",
+        &twenty_ctus()[..24990],
+        "the file ends after 24990 of the 24991 bytes that its header announces",
+    );
+    // Two gigabytes that take no room on the disk.
+    let long = file(&folder, "long.sao", &twenty_ctus());
+    File::options().write(true).open(&long).and_then(|file| file.set_len(2 << 30)).expect("a long file");
+    is_damage(check_in_little_memory(&long), &long, goes_on);
+    fs::remove_file(&long).expect("the long file goes away");
+}
+
+/// What check says of a pipe that gives these bytes and then zeros without end.
+fn check_endless(bytes: Vec<u8>) -> Ran {
+    let mut command = Command::new(COMMAND);
+    command.args(["check", "/dev/stdin"]).stdin(Stdio::piped()).stdout(Stdio::piped()).stderr(Stdio::piped());
+    let mut child = command.spawn().expect("the command runs");
+    let mut pipe = child.stdin.take().expect("a pipe");
+    // It ends when the command does, since nobody reads the pipe any more.
+    let writer = std::thread::spawn(move || std::io::copy(&mut bytes.chain(std::io::repeat(0)), &mut pipe));
+    let ended = child.wait_with_output().expect("the command ends");
+    assert!(writer.join().expect("a thread that ends").is_err());
+    let text = |bytes: Vec<u8>| String::from_utf8(bytes).expect("text");
+    (ended.status.code(), text(ended.stdout), text(ended.stderr))
+}
+
+#[test]
+fn a_pipe_without_end_is_left() {
+    let stdin = Path::new("/dev/stdin");
+    let goes_on = "the file goes on after the 24991 bytes that its header announces";
+    is_damage(check_endless(twenty_ctus()), stdin, goes_on);
+    is_damage(check_endless(vec![]), stdin, "the file does not begin with the mark SAOVEC1");
+    let bad = with(twenty_ctus(), &[(5, 7)]);
+    is_damage(check_endless(bad), stdin, "header field 5, CtbLog2SizeY, is 7, outside 4 to 6");
+    let (status, lines, error) = check_endless(header(65528, 65528));
+    assert_eq!((status, error.as_str()), (Some(0), ""));
+    assert!(lines.starts_with("/dev/stdin  not covered: its size is 65528x65528, above 8192\n"), "{lines}");
+}
+
+#[test]
+fn what_is_announced_takes_no_memory() {
+    let folder = folder("announced");
+    for side in [8192, 65528u64] {
+        let path = file(&folder, &format!("{side}.sao"), &header(side as i32, side as i32));
+        let (ctbs, coding_blocks, samples) = (side.div_ceil(16).pow(2), (side / 8).pow(2), side.pow(2) * 3 / 2);
+        let bytes = CTUS as u64 + 28 * ctbs + coding_blocks + 2 * 2 * samples;
+        let why = format!("the file ends after 136 of the {bytes} bytes that its header announces");
+        is_damage(check_in_little_memory(&path), &path, &why);
+    }
+}
+
+#[test]
+fn a_picture_larger_than_8192_is_not_read() {
+    let (folder, why) = (folder("large"), "its size is 8x8200, above 8192");
+    let bytes = header(8, 8200);
+    let parts = 4 * 4 + 24 + 28 * 513 + 1025 + 2 * 2 * (8 * 8200 * 3 / 2);
+    let path = file(&folder, "large.sao", &bytes);
+    let set_length = |length: usize| {
+        File::options().write(true).open(&path).and_then(|file| file.set_len(length as u64)).expect("a file");
+    };
+    // Its parts are not sound, but they are there.
+    set_length(HEADER + parts);
+    let (status, lines, error) = check(&path);
+    assert_eq!((status, error.as_str()), (Some(0), ""));
+    assert!(lines.contains(&format!("  not covered: {why}\n")), "{lines}");
+    set_length(HEADER + parts + 1);
+    let all = HEADER + parts;
+    is_damage(check(&path), &path, &format!("the file goes on after the {all} bytes that its header announces"));
+}
+
+// Files that cannot be read
+
+fn cannot_be_read(path: &Path) {
+    let sentence = format!("steamgusset: {}: the file cannot be read: ", path.display());
+    let (status, lines, error) = check(path);
+    assert_eq!(lines, "0 agree, 0 differ, 0 not covered, 0 damaged, 1 cannot be read\n");
+    assert!(status == Some(1) && error.starts_with(&sentence) && error.lines().count() == 1, "{error}");
+    let (status, lines, error) = ran(Command::new(COMMAND).arg("filter").arg(path).args(["-o", "/dev/null"]));
+    assert!(status == Some(1) && lines.is_empty() && error.starts_with(&sentence), "{error}");
+}
+
+#[test]
+fn a_file_that_cannot_be_read_is_not_called_damaged() {
+    let folder = folder("unreadable");
+    cannot_be_read(&folder.join("no-such-file.sao"));
+    cannot_be_read(&folder);
+    let locked = file(&folder, "locked.sao", &tiny());
+    let mut permissions = fs::metadata(&locked).expect("a file").permissions();
+    std::os::unix::fs::PermissionsExt::set_mode(&mut permissions, 0);
+    fs::set_permissions(&locked, permissions).expect("a locked file");
+    match fs::read(&locked) {
+        Ok(_) => println!("not tested: a file without permission, since this user may read it all the same"),
+        Err(_) => cannot_be_read(&locked),
+    }
+}
+
+// Damage of all kinds
+
+/// Whether the second program, with a reader of its own, calls the file damaged.
+fn second_calls_it_damaged(bytes: &[u8]) -> bool {
+    let Ok(vector) = Vector::parse(bytes) else {
+        return true;
+    };
+    let picture = vector.picture();
+    vector.covered_by_base() && !vector.sets().iter().all(|set| set.within_rules(&picture))
+}
+
+/// Has every file get its line or its sentence, so no file ended the command; a sentence exactly where the second program
+/// finds damage too. How many were sentences.
+fn each_is_judged(name: &str, damaged: &[Vec<u8>]) -> usize {
+    let folder = folder(name);
+    let write = |(number, bytes): (usize, &Vec<u8>)| {
+        file(&folder, &number.to_string(), bytes);
+        number.to_string()
+    };
+    let names: Vec<String> = damaged.iter().enumerate().map(write).collect();
+    let (status, lines, error) = ran(Command::new(COMMAND).arg("check").args(&names).current_dir(&folder));
+    assert!(matches!(status, Some(0 | 1)), "{status:?}: {error}");
+    assert_eq!(lines.lines().count() - 1 + error.lines().count(), damaged.len(), "{error}");
+    let said = error.lines().map(|line| line.split(": ").nth(1).unwrap_or_default());
+    let second = names.iter().zip(damaged).filter(|(_, bytes)| second_calls_it_damaged(bytes));
+    assert_eq!(said.collect::<Vec<_>>(), second.map(|(name, _)| name.as_str()).collect::<Vec<_>>(), "{error}");
+    fs::remove_dir_all(&folder).expect("the folder goes away");
+    error.lines().count()
+}
+
+#[test]
+fn every_header_field_is_survived() {
+    let numbers = [i32::MIN, -1, 0, 1, 2, 3, 4, 5, 6, 7, 8, 9, 16, 4096, 8192, 65528, 65536, 1 << 24, i32::MAX];
+    let each =
+        |bytes: fn() -> Vec<u8>| (0..32).flat_map(move |field| numbers.map(|number| with(bytes(), &[(field, number)])));
+    let all: Vec<Vec<u8>> = each(tiny).chain(each(scaled)).collect();
+    let sentences = each_is_judged("every-field", &all);
+    assert!(sentences > all.len() / 2 && sentences < all.len());
+}
+
+#[test]
+fn truncations_are_damaged() {
+    let mut cut = Vec::new();
+    for bytes in [twenty_ctus(), scaled(), segmented(7, second_segment(0, 1))] {
+        let (start, rest) = (0..CTUS + 60, (CTUS + 60..bytes.len()).step_by(997));
+        cut.extend(start.chain(rest).map(|length| bytes[..length].to_vec()));
+    }
+    assert_eq!(each_is_judged("truncated", &cut), cut.len());
+}
+
+#[test]
+fn random_damage_is_survived() {
+    let mut random = Random::new(11);
+    let damaged = |_: usize| {
+        let mut bytes = random.pick(&[tiny as fn() -> Vec<u8>, scaled, || segmented(7, second_segment(0, 1))])();
+        for _ in 0..1 + random.below(3) {
+            let within = random.pick(&[HEADER, CTUS + 60, bytes.len()]);
+            let place = random.below(within);
+            bytes[place] = random.pick(&[0, 1, 2, 3, 127, 128, 255, bytes[place] ^ 1, bytes[place] ^ 128]);
+        }
+        bytes
+    };
+    let all: Vec<Vec<u8>> = (0..600).map(damaged).collect();
+    let sentences = each_is_judged("random", &all);
+    assert!(sentences > 0 && sentences < all.len());
+}
+
+// The figure of the last line
+
+#[test]
+fn the_seed_decides_how_many_blocks_are_filtered_before_the_last_delivery() {
+    let path = file(&folder("figure"), "figure.sao", &twenty_ctus());
+    let figure = |seed: u64| {
+        let (status, lines, _) = ran(Command::new(COMMAND).args(["check", "--seed", &seed.to_string()]).arg(&path));
+        assert_eq!(status, Some(0));
+        let (before, _) = lines.split_once(" of 60 blocks filtered before the last delivery, ").expect("the figure");
+        before.rsplit(' ').next().and_then(|figure| figure.parse::<usize>().ok()).expect("a number")
+    };
+    let figures: Vec<usize> = (0..8).map(figure).collect();
+    assert_eq!(figures[1], figure(1));
+    // A block waits for its neighbours: the last delivered and those around it, four at least, come after.
+    assert!(figures.iter().all(|figure| *figure <= 60 - 4), "{figures:?}");
+    assert!(figures.iter().any(|figure| *figure != figures[0]), "{figures:?}");
+}

@@ -120,3 +120,18 @@ impl From<io::Error> for Mistake {
         Mistake::Output(error)
     }
 }
+
+#[cfg(test)]
+mod tests {
+    use super::PARTS;
+
+    const SCRIPT: &str = include_str!("../run");
+
+    #[test]
+    fn the_script_takes_the_names_of_the_parts() {
+        let names = PARTS.map(|part| part.name);
+        assert!(SCRIPT.contains(&format!("--quick | {})", names.join(" | "))));
+        let usage = format!("usage: bench/run [--quick] [{}]", names.join("] ["));
+        assert_eq!(SCRIPT.matches(&usage).count(), 2);
+    }
+}

@@ -735,6 +735,8 @@ fn a_bad_command_line() {
         "check --seed= a",
         "check --seed --seed a",
         "check --seed 1 --seed 2 a",
+        "check - a -",
+        "check - /dev/stdin",
         "filter",
         "filter a",
         "filter a -o",

@@ -6,7 +6,8 @@ use second::filter_picture;
 use second::random::Random;
 use second::vectors::Vector;
 use std::fs::{self, File};
-use std::io::Read;
+use std::io::{Read, Seek, SeekFrom};
+use std::os::unix::fs::PermissionsExt;
 use std::path::{Path, PathBuf};
 use std::process::{Command, Stdio};
 
@@ -165,33 +166,6 @@ fn a_slice_of_several_segments_is_covered() {
     }
 }
 
-/// The picture of twenty CTUs with tiles of two and three columns, in one slice whose segments begin at these CTUs.
-fn tiled(starts: [usize; 3]) -> Vec<u8> {
-    let mut bytes = with(twenty_ctus(), &[(13, 2), (15, 3)]);
-    // Decoded tile after tile: the columns 0 and 1 of all rows, then 2 to 4.
-    let tile = |columns: std::ops::Range<usize>| (0..4).flat_map(move |row| columns.clone().map(move |x| 5 * row + x));
-    let mut segment = -1;
-    for ctu in tile(0..2).chain(tile(2..5)) {
-        segment += i32::from(starts.contains(&ctu));
-        put(&mut bytes, CTUS + 28 * ctu, segment);
-    }
-    let segments = starts[1..].iter().flat_map(|start| [*start as i32, 0, 1, FLAGS[0], FLAGS[1], FLAGS[2]]);
-    bytes.splice(CTUS..CTUS, segments.flat_map(i32::to_le_bytes));
-    bytes.splice(HEADER + 4..HEADER + 4, 2i32.to_le_bytes());
-    bytes
-}
-
-#[test]
-fn segments_follow_each_other_tile_after_tile() {
-    // In raster order CTU 2 comes before CTU 5, but its tile comes after.
-    let sound = tiled([0, 5, 2]);
-    assert!(Vector::parse(&sound).is_ok());
-    is_not_covered("tiled", &sound, "it has several tiles");
-    let swapped = tiled([0, 2, 5]);
-    assert!(Vector::parse(&swapped).is_err());
-    is_damaged("tiled-swapped", &swapped, "slice segment 2 begins no later than the one before it");
-}
-
 #[test]
 fn what_is_not_covered_is_said() {
     // Two tile columns of the five CTB columns.
@@ -342,7 +316,7 @@ fn no_more_is_read_than_the_header_announces() {
 /// What check says of a pipe that gives these bytes and then zeros without end.
 fn check_endless(bytes: Vec<u8>) -> Ran {
     let mut command = Command::new(COMMAND);
-    command.args(["check", "/dev/stdin"]).stdin(Stdio::piped()).stdout(Stdio::piped()).stderr(Stdio::piped());
+    command.args(["check", "-"]).stdin(Stdio::piped()).stdout(Stdio::piped()).stderr(Stdio::piped());
     let mut child = command.spawn().expect("the command runs");
     let mut pipe = child.stdin.take().expect("a pipe");
     // It ends when the command does, since nobody reads the pipe any more.
@@ -355,15 +329,112 @@ fn check_endless(bytes: Vec<u8>) -> Ran {
 
 #[test]
 fn a_pipe_without_end_is_left() {
-    let stdin = Path::new("/dev/stdin");
+    let stdin = Path::new("standard input");
     let goes_on = "the file goes on after the 24991 bytes that its header announces";
     is_damage(check_endless(twenty_ctus()), stdin, goes_on);
     is_damage(check_endless(vec![]), stdin, "the file does not begin with the mark SAOVEC1");
     let bad = with(twenty_ctus(), &[(5, 7)]);
     is_damage(check_endless(bad), stdin, "header field 5, CtbLog2SizeY, is 7, outside 4 to 6");
-    let (status, lines, error) = check_endless(header(65528, 65528));
-    assert_eq!((status, error.as_str()), (Some(0), ""));
-    assert!(lines.starts_with("/dev/stdin  not covered: its size is 65528x65528, above 8192\n"), "{lines}");
+    // However much is announced: what is not covered is not read, and what is covered no further than it is sound.
+    for (fields, why) in [
+        (&[(0, 65528), (1, 65528), (7, 4096), (8, 4096)][..], "its size is 65528x65528, above 8192"),
+        (&[(2, 3), (24, 3)], "its format is 4:4:4"),
+    ] {
+        let (status, lines, error) = check_endless(with(header(8192, 8192), fields));
+        assert_eq!((status, error.as_str()), (Some(0), ""));
+        assert!(lines.starts_with(&format!("standard input  not covered: {why}\n")), "{lines}");
+    }
+    is_damage(check_endless(header(8192, 8192)), stdin, "the tile column boundaries do not rise from 0 to 512");
+}
+
+/// How many bytes check reads of a file as long as its header announces, with zeros after these bytes.
+fn bytes_read(name: &str, bytes: &[u8]) -> (Ran, u64) {
+    let path = file(&folder(name), "read.sao", bytes);
+    let announced = second::vectors::Header::read(&mut &bytes[..]).expect("a good header").file_bytes();
+    let mut read = File::options().read(true).write(true).open(&path).expect("a file");
+    read.set_len(announced).expect("zeros that take no room on the disk");
+    // The command and the test share the place in the file.
+    let ran = ran(Command::new(COMMAND).args(["check", "-"]).stdin(read.try_clone().expect("the same file")));
+    (ran, read.stream_position().expect("the place in the file"))
+}
+
+#[test]
+fn nothing_is_read_after_a_header_that_is_not_covered() {
+    for (number, (fields, why)) in [
+        (&[(0, 8200), (1, 8), (7, 513), (8, 1)][..], "its size is 8200x8, above 8192"),
+        (&[(2, 2), (24, 2)], "its format is 4:2:2"),
+        (&[(2, 3), (24, 3)], "its format is 4:4:4"),
+        (&[(2, 3), (24, 0)], "its format is 4:4:4 with planes coded apart"),
+        (&[(4, 9)], "it has two depths, luma 8 and chroma 9"),
+        (
+            &[(3, 12), (4, 12), (9, 2)],
+            "its offsets are sent with scale 2 for luma and 0 for chroma; at depth 12 the stage has 2",
+        ),
+        (&[(14, 2)], "it has several tiles"),
+        (&[(23, 2)], "it has lossless units, which keep their samples"),
+        (&[(23, 1), (11, 1)], "it has PCM units whose loop filtering is disabled"),
+    ]
+    .into_iter()
+    .enumerate()
+    {
+        let ((status, lines, error), read) = bytes_read(&format!("unread-{number}"), &with(header(8192, 8192), fields));
+        let counts = "0 agree, 0 differ, 1 not covered, 0 damaged, 0 cannot be read";
+        let line = format!("standard input  not covered: {why}\n{counts}\n");
+        assert_eq!((status, lines, error, read), (Some(0), line, String::new(), HEADER as u64));
+    }
+}
+
+#[test]
+fn nothing_is_read_after_the_first_bad_part() {
+    let stdin = Path::new("standard input");
+    let (ran, read) = bytes_read("bad-tiles", &header(8192, 8192));
+    is_damage(ran, stdin, "the tile column boundaries do not rise from 0 to 512");
+    assert_eq!(read, SEGMENT as u64);
+    let tiles = [0, 512, 0, 512i32].iter().flat_map(|bound| bound.to_le_bytes()).collect();
+    let segment = [0, 0, 0, 2, 0, 0i32].iter().flat_map(|number| number.to_le_bytes()).collect();
+    let (ran, read) = bytes_read("bad-segment", &[header(8192, 8192), tiles, segment].concat());
+    is_damage(ran, stdin, "slice segment 0 has slice_sao_luma_flag 2, outside 0 to 1");
+    assert_eq!(read, CTUS as u64);
+}
+
+#[test]
+fn a_file_may_be_the_standard_input() {
+    let folder = folder("standard-input");
+    let (name, out) = (file(&folder, "in.sao", &twenty_ctus()), folder.join("out.yuv"));
+    let from = |words: &[&str], place: u64| {
+        let mut input = File::open(&name).expect("a file");
+        input.seek(SeekFrom::Start(place)).expect("a place in the file");
+        ran(Command::new(COMMAND).args(words).current_dir(&folder).stdin(input))
+    };
+    for word in ["-", "/dev/stdin"] {
+        let (status, lines, error) = from(&["check", "no-such-file", word, "in.sao"], 0);
+        assert_eq!((status, error.lines().count()), (Some(1), 1));
+        let lines: Vec<&str> = lines.lines().collect();
+        assert!(lines[0].starts_with("standard input  72x56 ") && lines[1].starts_with("in.sao          72x56 "));
+        assert!(lines[2].starts_with("2 agree, "), "{lines:?}");
+    }
+    let [piped, named] = ["-", "in.sao"].map(|input| {
+        let ran = from(&["filter", input, "-o", "out.yuv"], 0);
+        assert_eq!(ran.0, Some(0));
+        (ran, fs::read(&out).expect("the output"))
+    });
+    assert!(piped == named);
+    // It is read from where it stands, and its length counts from there.
+    let (_, _, error) = from(&["check", "-"], 8);
+    assert_eq!(error, "steamgusset: standard input: the file does not begin with the mark SAOVEC1\n");
+    let moved = file(&folder, "moved.sao", &[b"before".as_slice(), &twenty_ctus()].concat());
+    let mut input = File::open(moved).expect("a file");
+    input.seek(SeekFrom::Start(6)).expect("a place in the file");
+    assert_eq!(ran(Command::new(COMMAND).args(["check", "-"]).stdin(input)).0, Some(0));
+    // Nor is it written over.
+    let (status, _, error) = from(&["filter", "-", "-o", "in.sao"], 0);
+    let sentence = "steamgusset: in.sao: this is the input, which is not written over\n";
+    assert_eq!((status, error.as_str()), (Some(1), sentence));
+    assert!(fs::read(&name).expect("the input") == twenty_ctus());
+    // A file of that name has its folder before it.
+    file(&folder, "-", &twenty_ctus());
+    let (status, lines, _) = from(&["check", "./-"], 8);
+    assert!(status == Some(0) && lines.starts_with("./-  72x56 "), "{lines}");
 }
 
 #[test]
@@ -379,59 +450,82 @@ fn what_is_announced_takes_no_memory() {
 }
 
 #[test]
-fn a_picture_larger_than_8192_is_not_read() {
-    let (folder, why) = (folder("large"), "its size is 8x8200, above 8192");
-    let bytes = header(8, 8200);
-    let parts = 4 * 4 + 24 + 28 * 513 + 1025 + 2 * 2 * (8 * 8200 * 3 / 2);
-    let path = file(&folder, "large.sao", &bytes);
-    let set_length = |length: usize| {
-        File::options().write(true).open(&path).and_then(|file| file.set_len(length as u64)).expect("a file");
-    };
-    // Its parts are not sound, but they are there.
-    set_length(HEADER + parts);
-    let (status, lines, error) = check(&path);
-    assert_eq!((status, error.as_str()), (Some(0), ""));
-    assert!(lines.contains(&format!("  not covered: {why}\n")), "{lines}");
-    set_length(HEADER + parts + 1);
-    let all = HEADER + parts;
+fn the_length_is_judged_before_what_is_covered() {
+    let path = file(&folder("large"), "large.sao", &header(8, 8200));
+    let all = HEADER + 4 * 4 + 24 + 28 * 513 + 1025 + 2 * 2 * (8 * 8200 * 3 / 2);
+    File::options().write(true).open(&path).and_then(|file| file.set_len(all as u64 + 1)).expect("a file");
     is_damage(check(&path), &path, &format!("the file goes on after the {all} bytes that its header announces"));
 }
 
 // Files that cannot be read
 
-fn cannot_be_read(path: &Path) {
+fn cannot_be_read(command: &[&str], path: &Path) {
+    let run = |words: &[&str]| {
+        let all = [command, &[COMMAND], words].concat();
+        ran(Command::new(all[0]).args(&all[1..]).arg(path).stdin(Stdio::null()))
+    };
     let sentence = format!("steamgusset: {}: the file cannot be read: ", path.display());
-    let (status, lines, error) = check(path);
+    let (status, lines, error) = run(&["check"]);
     assert_eq!(lines, "0 agree, 0 differ, 0 not covered, 0 damaged, 1 cannot be read\n");
     assert!(status == Some(1) && error.starts_with(&sentence) && error.lines().count() == 1, "{error}");
-    let (status, lines, error) = ran(Command::new(COMMAND).arg("filter").arg(path).args(["-o", "/dev/null"]));
+    let (status, lines, error) = run(&["filter", "-o", "/dev/null"]);
     assert!(status == Some(1) && lines.is_empty() && error.starts_with(&sentence), "{error}");
 }
+
+/// Runs a program as a user without rights, where this user may.
+const AS_NOBODY: [&str; 4] = ["setpriv", "--reuid=65534", "--regid=65534", "--clear-groups"];
 
 #[test]
 fn a_file_that_cannot_be_read_is_not_called_damaged() {
     let folder = folder("unreadable");
-    cannot_be_read(&folder.join("no-such-file.sao"));
-    cannot_be_read(&folder);
-    let locked = file(&folder, "locked.sao", &tiny());
-    let mut permissions = fs::metadata(&locked).expect("a file").permissions();
-    std::os::unix::fs::PermissionsExt::set_mode(&mut permissions, 0);
-    fs::set_permissions(&locked, permissions).expect("a locked file");
+    cannot_be_read(&[], &folder.join("no-such-file.sao"));
+    cannot_be_read(&[], &folder);
+    let [open, locked] = ["open.sao", "locked.sao"].map(|name| file(&folder, name, &tiny()));
+    fs::set_permissions(&locked, fs::Permissions::from_mode(0o000)).expect("a locked file");
+    let nobody = Command::new(AS_NOBODY[0]).args(&AS_NOBODY[1..]).args([COMMAND, "check"]).arg(open).output();
     match fs::read(&locked) {
+        Err(_) => cannot_be_read(&[], &locked),
+        // Root may read every file.
+        Ok(_) if nobody.is_ok_and(|ran| ran.status.success()) => cannot_be_read(&AS_NOBODY, &locked),
         Ok(_) => println!("not tested: a file without permission, since this user may read it all the same"),
-        Err(_) => cannot_be_read(&locked),
+    }
+}
+
+#[test]
+fn a_name_stays_on_its_line() {
+    let folder = folder("names");
+    file(&folder, "a\nb\x1b[31m.sao", &twenty_ctus());
+    let in_folder = |words: &[&str]| ran(Command::new(COMMAND).args(words).current_dir(&folder).stdin(Stdio::null()));
+    let (status, lines, error) = in_folder(&["check", "a\nb\x1b[31m.sao", "", "c\rd"]);
+    assert_eq!((status, lines.lines().count()), (Some(1), 2));
+    assert!(lines.starts_with("a\\nb\\u{1b}[31m.sao  72x56 "), "{lines}");
+    let sentences: Vec<&str> = error.lines().collect();
+    assert!(sentences[0].starts_with("steamgusset: '': the file cannot be read: "), "{error}");
+    assert!(sentences[1].starts_with("steamgusset: c\\rd: the file cannot be read: "), "{error}");
+    let (_, line, _) = in_folder(&["filter", "a\nb\x1b[31m.sao", "-o", "x\ny"]);
+    assert!(line.ends_with(" samples changed, written: x\\ny\n") && folder.join("x\ny").exists(), "{line}");
+    for (words, said) in [
+        (["help", "x\ny"], "there is no command x\\ny; "),
+        (["check", "--x\ny"], "there is no option --x\\ny; "),
+        (["check", "--seed=\x07"], "--seed takes a number from 0 to 18446744073709551615, not \\u{7}; "),
+        (["help", ""], "there is no command ''; "),
+    ] {
+        let (status, _, error) = in_folder(&words);
+        assert!(status == Some(2) && error.starts_with(&format!("steamgusset: {said}")), "{error}");
+        assert_eq!(error.lines().count(), 1);
     }
 }
 
 // Damage of all kinds
 
 /// Whether the second program, with a reader of its own, calls the file damaged.
-fn second_calls_it_damaged(bytes: &[u8]) -> bool {
-    let Ok(vector) = Vector::parse(bytes) else {
-        return true;
-    };
-    let picture = vector.picture();
-    vector.covered_by_base() && !vector.sets().iter().all(|set| set.within_rules(&picture))
+fn second_calls_it_damaged(mut bytes: &[u8]) -> bool {
+    let length = bytes.len() as u64;
+    match Vector::covered(&mut bytes, Some(length)) {
+        Ok(Ok(vector)) => !vector.sets().iter().all(|set| set.within_rules(&vector.picture())),
+        Ok(Err(_)) => false,
+        Err(_) => true,
+    }
 }
 
 /// Has every file get its line or its sentence, so no file ended the command; a sentence exactly where the second program

@@ -7,7 +7,7 @@
 use second::replay::{Tally, through_the_stage};
 use second::stored::bytes;
 use second::stored_runs;
-use second::vectors::{Fault, Header, Vector};
+use second::vectors::{Fault, Vector};
 use second::{Picture, filter_picture};
 use std::fs::File;
 use std::io::{self, BufReader, Write};
@@ -125,24 +125,11 @@ fn judged(file: &str) -> (Outcome, String) {
     }
 }
 
-/// The vector of a file, or why document 01 does not cover its picture.
+/// The vector of a file, or why document 01 does not cover its picture. The system knows the length of a regular file.
 fn covered(file: &str) -> Result<Result<Vector, String>, Fault> {
-    let mut file = BufReader::new(File::open(file)?);
-    let header = Header::read(&mut file)?;
-    if let Some(why) = header.too_large() {
-        return has_its_length(file.get_ref(), &header).map(|()| Err(why));
-    }
-    let vector = Vector::read(header, &mut file)?;
-    Ok(vector.outside_base().map_or(Ok(vector), Err))
-}
-
-/// Judges a file by its length alone, where the system knows it.
-fn has_its_length(file: &File, header: &Header) -> Result<(), Fault> {
-    let (known, right) = (file.metadata()?, header.file_bytes());
-    if known.is_file() && known.len() != right {
-        return Err(Fault::Damaged(format!("the file has {} bytes, where its header announces {right}", known.len())));
-    }
-    Ok(())
+    let file = File::open(file)?;
+    let known = file.metadata()?;
+    Vector::covered(&mut BufReader::new(file), known.is_file().then_some(known.len()))
 }
 
 /// A picture through the stage and at once. Sets that the stage refuses are damage.

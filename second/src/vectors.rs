@@ -2,7 +2,7 @@
 //!
 //! Method: the bytes are read part after part as the format lists them, each part checked against what the parts before
 //! it say. A damaged file gives a sentence, never a panic; nothing is made that the file has no bytes for, and nothing is
-//! read after the byte that shows a file to go on too long.
+//! read after the byte that shows a file to go on too long, nor after a header that document 01 does not speak of.
 
 use crate::picture::Picture;
 use crate::sets::{ComponentSet, CtuSet};
@@ -93,6 +93,23 @@ pub struct Vector {
 }
 
 impl Vector {
+    /// The vector of a file, or why document 01 does not speak of its picture. Where the header shows that, the rest stays
+    /// unread, and the file is judged by its length alone, if that is known.
+    pub fn covered(file: &mut dyn Read, length: Option<u64>) -> Result<Result<Vector, String>, Fault> {
+        let header = Header::read(file)?;
+        let right = header.file_bytes();
+        match (header.outside_base(), length.filter(|has| *has != right)) {
+            (None, _) => {
+                let vector = Vector::read(header, file)?;
+                Ok(vector.outside_base().map_or(Ok(vector), Err))
+            }
+            (Some(why), None) => Ok(Err(why)),
+            (Some(_), Some(has)) => {
+                Err(Fault::Damaged(format!("the file has {has} bytes, where its header announces {right}")))
+            }
+        }
+    }
+
     /// The vector of a whole file's bytes.
     pub fn parse(mut bytes: &[u8]) -> Result<Vector, String> {
         let header = Header::read(&mut bytes);
@@ -180,30 +197,17 @@ impl Vector {
         }
     }
 
-    /// Why document 01 does not speak of such a picture, or nothing if it does.
+    /// Why document 01 does not speak of such a picture, or nothing if it does. The header says all but one thing.
     pub fn outside_base(&self) -> Option<String> {
-        let slice = |segment: &Segment| segment.slice_address;
-        let several_slices = self.segments.iter().any(|segment| slice(segment) != slice(&self.segments[0]));
-        let own = || {
-            let reasons = [
-                (several_slices, "it has several slices"),
-                (self.keeps_a_sample(), "it has lossless or PCM units that keep their samples"),
-            ];
-            reasons.into_iter().find_map(|(holds, why)| holds.then(|| why.to_string()))
-        };
-        self.header.outside_base().or_else(own)
+        let first = self.segments[0].slice_address;
+        let several_slices = self.segments.iter().any(|segment| segment.slice_address != first);
+        self.header.outside_base().or_else(|| several_slices.then(|| "it has several slices".to_string()))
     }
 
     /// Whether document 01 speaks of such a picture: monochrome or 4:2:0, one depth, above 10 bits scaled by the 2013
     /// rule, one slice, one tile and no kept sample.
     pub fn covered_by_base(&self) -> bool {
         self.outside_base().is_none()
-    }
-
-    /// Whether a lossless unit, or a PCM unit with its loop filtering disabled, keeps samples from the filter.
-    pub fn keeps_a_sample(&self) -> bool {
-        let kept = if self.header.pcm_loop_filter_disabled { 3 } else { 2 };
-        self.skip.iter().any(|bits| bits & kept != 0)
     }
 
     /// The description of a picture covered by the base: its one slice's flags are the two switches.
@@ -294,29 +298,34 @@ impl Header {
         }
     }
 
-    /// Whether the picture is larger than document 01 allows. Such a file is better not read: it may be gigabytes.
-    pub fn too_large(&self) -> Option<String> {
-        let Header { width, height, .. } = self;
-        (*width > LARGEST_SIDE || *height > LARGEST_SIDE)
-            .then(|| format!("its size is {width}x{height}, above {LARGEST_SIDE}"))
-    }
-
     /// Why the header alone puts the picture outside document 01, or nothing.
-    fn outside_base(&self) -> Option<String> {
+    pub fn outside_base(&self) -> Option<String> {
         let chroma = self.planes == 3;
-        let Header { depth_luma, depth_chroma, scale_luma, scale_chroma, .. } = *self;
+        let Header { width, height, depth_luma, depth_chroma, scale_luma, scale_chroma, .. } = *self;
         // Document 01 multiplies every offset by 2 to this power.
         let shift = depth_luma - depth_luma.min(10);
         let sent =
             |scale: u8, what: &str| format!("it sends scale {scale} for {what}, where the 2013 rule has {shift}");
         let reasons = [
+            (
+                width > LARGEST_SIDE || height > LARGEST_SIDE,
+                format!("its size is {width}x{height}, above {LARGEST_SIDE}"),
+            ),
             (self.chroma_format_idc > 1, "its format is neither monochrome nor 4:2:0".to_string()),
             (chroma && depth_luma != depth_chroma, format!("it has the depths {depth_luma} and {depth_chroma}")),
             (scale_luma != shift, sent(scale_luma, "luma")),
             (chroma && scale_chroma != shift, sent(scale_chroma, "chroma")),
             (self.tile_columns > 1 || self.tile_rows > 1, "it has several tiles".to_string()),
+            (self.keeps_a_sample(), "it has lossless or PCM units that keep their samples".to_string()),
         ];
-        self.too_large().or_else(|| reasons.into_iter().find_map(|(holds, why)| holds.then_some(why)))
+        reasons.into_iter().find_map(|(holds, why)| holds.then_some(why))
+    }
+
+    /// Whether a lossless unit, or a PCM unit with its loop filtering disabled, keeps samples from the filter: the header
+    /// has the OR of the skip map.
+    fn keeps_a_sample(&self) -> bool {
+        let kept = if self.pcm_loop_filter_disabled { 3 } else { 2 };
+        self.fields[23] & kept != 0
     }
 
     /// How many bytes the file has by what the header says.

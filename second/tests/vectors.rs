@@ -172,12 +172,38 @@ fn no_more_is_read_than_the_header_announces() {
     let header = Header::read(&mut endless).expect("a good header");
     let fault = Vector::read(header, &mut endless).expect_err("a file without end");
     assert_eq!(fault.to_string(), "the file goes on after its final planes");
-    // 8192x8192 announced and nothing there; more than that is outside document 01, and not read.
+    // 8192x8192 announced and nothing there.
     let announced = with(twenty_ctus()[..136].to_vec(), &[(0, 8192), (1, 8192), (7, 512), (8, 512)]);
     assert_eq!(Vector::parse(&announced), Err("the file ends within its tile boundaries".into()));
-    let larger = with(announced, &[(0, 8208), (7, 513)]);
-    let header = Header::read(&mut larger.as_slice()).expect("a good header");
-    assert_eq!(header.too_large(), Some("its size is 8208x8192, above 8192".into()));
+}
+
+#[test]
+fn nothing_is_read_after_a_header_outside_document_01() {
+    for (numbers, why) in [
+        (&[(0, 8208), (1, 8192), (7, 513), (8, 512)][..], "its size is 8208x8192, above 8192"),
+        (&[(2, 2), (24, 2)], "its format is neither monochrome nor 4:2:0"),
+        (&[(2, 3), (24, 3)], "its format is neither monochrome nor 4:2:0"),
+        (&[(4, 9)], "it has the depths 8 and 9"),
+        (&[(3, 12), (4, 12), (9, 1), (10, 2)], "it sends scale 1 for luma, where the 2013 rule has 2"),
+        (&[(13, 2)], "it has several tiles"),
+        (&[(23, 2)], "it has lossless or PCM units that keep their samples"),
+        (&[(11, 1), (23, 1)], "it has lossless or PCM units that keep their samples"),
+    ] {
+        let bytes = with(twenty_ctus()[..136].to_vec(), numbers);
+        let right = Header::read(&mut bytes.as_slice()).expect("a good header").file_bytes();
+        // Of a pipe the length is not known.
+        for length in [None, Some(right)] {
+            let mut file = bytes.as_slice();
+            assert_eq!(Vector::covered(&mut file, length).expect("no damage"), Err(why.into()));
+            assert!(file.is_empty());
+        }
+        let damage = Vector::covered(&mut bytes.as_slice(), Some(136)).expect_err("a short file");
+        assert_eq!(damage.to_string(), format!("the file has 136 bytes, where its header announces {right}"));
+    }
+    // One that document 01 speaks of is read.
+    let pcm = with(twenty_ctus()[..136].to_vec(), &[(23, 1)]);
+    let damage = Vector::covered(&mut pcm.as_slice(), None).expect_err("a short file");
+    assert_eq!(damage.to_string(), "the file ends within its tile boundaries");
 }
 
 #[test]

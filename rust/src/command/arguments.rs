@@ -3,7 +3,7 @@
 //! `--name VALUE` and `--name=VALUE` are the same; after `--` every word is plain. A word that nothing takes is a
 //! mistake, and so is an option's name where another's value should be: `=` hands over even that.
 
-use super::Mistake;
+use super::{Mistake, on_one_line};
 use std::ffi::{OsStr, OsString};
 use std::os::unix::ffi::OsStrExt;
 use std::str::FromStr;
@@ -33,7 +33,7 @@ pub fn asks_for_help(words: &[OsString]) -> bool {
 
 /// A word that nothing takes.
 pub fn too_many(takes: &str, word: &OsStr) -> Mistake {
-    Mistake::CommandLine(format!("{takes}, and {} is a word too many", word.display()))
+    Mistake::CommandLine(format!("{takes}, and {} is a word too many", on_one_line(&word.to_string_lossy())))
 }
 
 impl Arguments {

@@ -1,6 +1,7 @@
 //! `steamgusset check`: real pictures through the stage in a shuffled order of calls, against what a decoder made.
 
 use super::arguments::{Arguments, long};
+use super::input::Input;
 use super::progress::Progress;
 use super::run::{NAMES, Run, changed, format_name};
 use super::shuffle::shuffled;
@@ -9,7 +10,6 @@ use super::{Ended, Mistake, Status, say};
 use std::collections::BTreeMap;
 use std::ffi::OsString;
 use std::io::Write;
-use std::path::Path;
 use steamgusset::{CtuSet, Offsets, Picture};
 
 pub const HELP: &str = "\
@@ -22,7 +22,7 @@ made ready are asked for at once. Finished rows are taken as they grow, and must
 options:
   --seed N   the order of the calls, a number from 0; without it 1
 
-A FILE may be /dev/stdin.
+One FILE may be -, the standard input. A file of that name is ./-.
 
 A line a file: its name, size, format, depth, CTB size; for each component its CTUs that are off/band/edge; how many
 samples the filter changed; nanoseconds per sample, in which only the calls write, read, deliver, filter (also the early
@@ -74,8 +74,11 @@ pub fn run(words: &[OsString], out: &mut dyn Write) -> Ended {
     if arguments.plain.is_empty() {
         return Err(Mistake::CommandLine("check needs a file".into()));
     }
-    let files: Vec<&Path> = arguments.plain.iter().map(Path::new).collect();
-    let names: Vec<String> = files.iter().map(|file| file.display().to_string()).collect();
+    let files: Vec<Input> = arguments.plain.iter().map(|word| Input::typed(word)).collect();
+    if files.iter().filter(|file| **file == Input::StandardInput).count() > 1 {
+        return Err(Mistake::CommandLine("the standard input is named twice, and can be read once".into()));
+    }
+    let names: Vec<String> = files.iter().map(Input::to_string).collect();
     let longest = names.iter().map(|name| name.chars().count()).max().unwrap_or(0);
     let mut progress = Progress::over(files.len());
     let mut totals = Totals::default();
@@ -95,7 +98,7 @@ pub fn run(words: &[OsString], out: &mut dyn Write) -> Ended {
 }
 
 /// Puts one file's picture through the stage. A set that no bins mean is found only here, and is damage too.
-fn judged(file: &Path, seed: u64, mut progress: impl FnMut(usize, usize)) -> Result<Report, Unfit> {
+fn judged(file: &Input, seed: u64, mut progress: impl FnMut(usize, usize)) -> Result<Report, Unfit> {
     let vector = Vector::read(file)?;
     let mut run = Run::open(&vector)?;
     let difference = replayed(&mut run, &vector, seed, &mut progress).err();

@@ -3,6 +3,7 @@
 use super::arguments::{Arguments, Known, long};
 use super::compare::compared;
 use super::image::Image;
+use super::input::Input;
 use super::output::{Output, Target, write_all};
 use super::run::{Run, changed, format_name};
 use super::shuffle::in_order;
@@ -30,9 +31,9 @@ options:
   --ppm PREFIX           the same as .ppm
   --amplify N            how much the difference is amplified, 1 to 255; without it 16
 
-OUT.yuv or OUT.png may be -, the standard output; then the closing line goes to the error stream. A file of that name
-is ./-. Files are written to a temporary name first, so a failure leaves what was there; the input is never written
-over.
+FILE may be -, the standard input. OUT.yuv or OUT.png may be -, the standard output; then the closing line goes to the
+error stream. A file of that name is ./-. Files are written to a temporary name first, so a failure leaves what was
+there; the input is never written over.
 
 Colours are those of BT.709 in limited range. The difference is that of luma, in steps of the picture's depth: grey 128
 is no change, lighter is more.
@@ -76,14 +77,15 @@ pub fn run(words: &[OsString], out: &mut dyn Write) -> Ended {
     let arguments = Arguments::parse(words, &OPTIONS)?;
     let [file] = arguments.words("filter", "one file")?;
     let asked = Asked::parse(&arguments)?;
-    let failed = |why: String| Mistake::Failed(format!("{}: {why}", file.display()));
-    let vector = Vector::read(Path::new(file)).map_err(|unfit| failed(unfit.to_string()))?;
+    let input = Input::typed(file);
+    let failed = |why: String| Mistake::Failed(format!("{input}: {why}"));
+    let vector = Vector::read(&input).map_err(|unfit| failed(unfit.to_string()))?;
     let run = filtered(&vector).map_err(failed)?;
 
     let after = [0, 1, 2].map(|component| run.stage.filtered(component));
     let before = vector.deblocked.each_ref().map(Vec::as_slice);
     let outputs = asked.outputs(&Planes { picture: vector.picture(), before, after });
-    write_all(&outputs, Path::new(file), out)?;
+    write_all(&outputs, &input, out)?;
     let line = line(&vector.picture(), changed(&vector.deblocked, after), &outputs);
     if outputs.iter().any(|output| output.target == Target::StandardOutput) {
         say(&line);

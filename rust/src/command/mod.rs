@@ -8,6 +8,7 @@ mod explain;
 mod filter;
 mod header;
 mod image;
+mod input;
 mod letters;
 mod output;
 mod progress;
@@ -137,7 +138,7 @@ fn version(words: &[OsString], out: &mut dyn Write) -> Ended {
 }
 
 fn no_such(name: &OsString) -> Mistake {
-    Mistake::CommandLine(format!("there is no command {}", name.display()))
+    Mistake::CommandLine(format!("there is no command {}", on_one_line(&name.to_string_lossy())))
 }
 
 /// A mistake on the command line, with the words that print what helps.
@@ -159,5 +160,11 @@ fn told(text: &str, out: &mut dyn Write) -> Ended {
 
 /// A sentence on the error stream. If even that is closed, the exit status still tells.
 pub fn say(sentence: &str) {
-    let _ = writeln!(io::stderr(), "steamgusset: {sentence}");
+    let _ = writeln!(io::stderr(), "steamgusset: {}", on_one_line(sentence));
+}
+
+/// A name, or a sentence with what was typed in it, as it is printed: a line stays a line, and a terminal is told nothing.
+fn on_one_line(text: &str) -> String {
+    let shown = |letter: char| if letter.is_control() { letter.escape_default().to_string() } else { letter.into() };
+    if text.is_empty() { "''".into() } else { text.chars().map(shown).collect() }
 }

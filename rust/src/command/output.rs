@@ -3,7 +3,8 @@
 //! Each file is written to a temporary name beside its target. Only when all are written do they take their names, so a
 //! failure leaves what was there before. A target that is no regular file, such as a pipe, is written as it is.
 
-use super::Mistake;
+use super::input::Input;
+use super::{Mistake, on_one_line};
 use std::ffi::OsStr;
 use std::fmt::{self, Display, Formatter};
 use std::fs::{self, File};
@@ -28,7 +29,7 @@ impl Display for Target {
     fn fmt(&self, to: &mut Formatter) -> fmt::Result {
         match self {
             Target::StandardOutput => to.write_str("standard output"),
-            Target::File(path) => path.display().fmt(to),
+            Target::File(path) => to.write_str(&on_one_line(&path.to_string_lossy())),
         }
     }
 }
@@ -41,7 +42,7 @@ pub struct Output {
 
 /// Writes all, or says why not. The input, and a target named twice, are never written over. The files take their names
 /// when the standard output has what is meant for it, so that they are as they were if it cannot be written.
-pub fn write_all(outputs: &[Output], input: &Path, out: &mut dyn Write) -> Result<(), Mistake> {
+pub fn write_all(outputs: &[Output], input: &Input, out: &mut dyn Write) -> Result<(), Mistake> {
     apart(outputs, input).map_err(Mistake::Failed)?;
     let mut waiting = Vec::new();
     for Output { target, bytes } in outputs {
@@ -61,8 +62,8 @@ pub fn write_all(outputs: &[Output], input: &Path, out: &mut dyn Write) -> Resul
 }
 
 /// Whether the files are apart from each other and from the input.
-fn apart(outputs: &[Output], input: &Path) -> Result<(), String> {
-    let (input, mut places) = (resolved(input), Vec::new());
+fn apart(outputs: &[Output], input: &Input) -> Result<(), String> {
+    let (input, mut places) = (resolved(input.path()), Vec::new());
     for Output { target, .. } in outputs {
         let Target::File(path) = target else { continue };
         let place = resolved(path);

@@ -1,18 +1,19 @@
 //! The vector files: real pictures before and after sample adaptive offset.
 //!
-//! Method: the header alone says how long every other part is. So it is judged before anything else is read, and no more
-//! is read than it announces; the parts are cut out of that. Only then is anything made. The second program has a reader
-//! of its own; nothing is shared with it on purpose, since it judges this one.
+//! Method: the header alone says how long every other part is, and most of what the stage does not cover. So it is judged
+//! before anything else is read. Then the parts come one after another, each judged before the next is read: a bad file
+//! is left at its first bad part, and never later than a byte after what its header announces. The second program has a
+//! reader of its own; nothing is shared with it on purpose, since it judges this one.
 
 mod segments;
 
 use super::header::{HEADER_BYTES, Header, numbers, outside};
+use super::input::Input;
 use segments::{Segments, Tiles};
 use std::cmp::Ordering;
 use std::fmt;
 use std::fs::File;
-use std::io::{self, Read};
-use std::path::Path;
+use std::io::{self, Read, Seek};
 use steamgusset::{CtuSet, Offsets, Picture};
 
 /// The largest width and height of the stage.
@@ -60,39 +61,36 @@ pub struct Vector {
 }
 
 impl Vector {
-    /// The vector of a file. What is damaged is called so first: a picture is not covered only if its file is sound, as
-    /// far as it is read.
-    pub fn read(path: &Path) -> Result<Vector, Unfit> {
-        let mut file = File::open(path)?;
+    /// The vector of a file. What its header shows not to be covered is said before the rest is read: of such a picture
+    /// only the header and, where the system knows it, the length are judged.
+    pub fn read(input: &Input) -> Result<Vector, Unfit> {
+        let mut file = input.open()?;
         let header = Header::parse(&at_most(&mut file, HEADER_BYTES)?)?;
-        let announced = header.parts().iter().sum();
-        known_length(&file, announced)?;
-        if let Some(why) = too_large(&header) {
-            // It may be gigabytes, so it is not read.
-            return Err(Unfit::NotCovered(why));
+        let mut rest = Rest { file, read: HEADER_BYTES, all: HEADER_BYTES + header.parts().iter().sum::<usize>() };
+        rest.has_its_length()?;
+        match not_covered(&header) {
+            Some(why) => Err(Unfit::NotCovered(why)),
+            None => Vector::parse(header, &mut rest),
         }
-        // The byte more shows whether the file goes on.
-        let rest = at_most(&mut file, announced + 1)?;
-        has_length(rest.len(), announced)?;
-        Vector::parse(header, &rest)
     }
 
-    /// The vector of the bytes after the header, which are as many as it announces.
-    fn parse(header: Header, bytes: &[u8]) -> Result<Vector, Unfit> {
-        let parts = Parts::cut(bytes, &header);
-        let tiles = Tiles::parse(parts.tiles, &header)?;
-        let segments = Segments::parse(parts.segments, &tiles, &header)?;
-        let ctus = ctus(parts.ctus, &segments, &tiles, &header)?;
-        let skip = parts.skip.iter().fold(0, |all, bits| all | bits);
+    /// The vector of what follows the header. Several slices are found only here.
+    fn parse(header: Header, rest: &mut Rest) -> Result<Vector, Unfit> {
+        let [tiles, segments, ctu, skip, ..] = header.parts();
+        let tiles = Tiles::parse(&rest.part(tiles)?, &header)?;
+        let segments = Segments::parse(&rest.part(segments)?, &tiles, header.columns * header.rows)?;
+        let ctus = ctus(&rest.part(ctu)?, &segments, &tiles, &header)?;
+        let skip = rest.part(skip)?.iter().fold(0, |all, bits| all | bits);
         if skip != header.skip {
             return Err(format!("the OR of the skip map is {skip}, but the header says {}", header.skip).into());
         }
-        let deblocked = planes(parts.deblocked, &header, "deblocked")?;
-        let expected = planes(parts.expected, &header, "final")?;
-        match not_covered(&header, &segments) {
-            Some(why) => Err(Unfit::NotCovered(why)),
-            None => Ok(Vector { flags: segments.flags, ctus, deblocked, expected, header }),
+        let deblocked = planes(rest, &header, "deblocked")?;
+        let expected = planes(rest, &header, "final")?;
+        rest.ends()?;
+        if segments.slices > 1 {
+            return Err(Unfit::NotCovered("it has several slices".into()));
         }
+        Ok(Vector { flags: segments.flags, ctus, deblocked, expected, header })
     }
 
     /// The picture's description: its slice's flags are the two switches.
@@ -130,40 +128,62 @@ fn at_most(file: &mut File, count: usize) -> io::Result<Vec<u8>> {
     Ok(bytes)
 }
 
-/// Judges how many bytes there are after the header.
-fn has_length(has: usize, announced: usize) -> Result<(), String> {
-    let (has, all) = (HEADER_BYTES + has, HEADER_BYTES + announced);
-    match has.cmp(&all) {
-        Ordering::Less => Err(format!("the file ends after {has} of the {all} bytes that its header announces")),
-        Ordering::Equal => Ok(()),
-        Ordering::Greater => Err(format!("the file goes on after the {all} bytes that its header announces")),
+/// What follows the header.
+struct Rest {
+    file: File,
+    /// How many bytes have been read, and how many there are by the header, which is among them.
+    read: usize,
+    all: usize,
+}
+
+impl Rest {
+    /// Judges the length before more is read, where the system knows it.
+    fn has_its_length(&mut self) -> Result<(), Unfit> {
+        let known = self.file.metadata()?;
+        if known.is_file() {
+            let left = known.len().saturating_sub(self.file.stream_position()?);
+            self.has(self.read + left as usize)?;
+        }
+        Ok(())
+    }
+
+    /// The next bytes, so many.
+    fn part(&mut self, count: usize) -> Result<Vec<u8>, Unfit> {
+        let bytes = at_most(&mut self.file, count)?;
+        self.read += bytes.len();
+        if bytes.len() < count {
+            self.has(self.read)?;
+        }
+        Ok(bytes)
+    }
+
+    /// Judges that nothing is left; a byte more would show it.
+    fn ends(&mut self) -> Result<(), Unfit> {
+        let more = at_most(&mut self.file, 1)?.len();
+        Ok(self.has(self.read + more)?)
+    }
+
+    /// Judges how many bytes the whole file has.
+    fn has(&self, bytes: usize) -> Result<(), String> {
+        let all = self.all;
+        match bytes.cmp(&all) {
+            Ordering::Less => Err(format!("the file ends after {bytes} of the {all} bytes that its header announces")),
+            Ordering::Equal => Ok(()),
+            Ordering::Greater => Err(format!("the file goes on after the {all} bytes that its header announces")),
+        }
     }
 }
 
-/// Judges a file's length before the rest is read, where the system knows it.
-fn known_length(file: &File, announced: usize) -> Result<(), Unfit> {
-    let known = file.metadata()?;
-    if known.is_file() {
-        has_length((known.len() as usize).saturating_sub(HEADER_BYTES), announced)?;
-    }
-    Ok(())
-}
-
-fn too_large(header: &Header) -> Option<String> {
-    let Header { width, height, .. } = header;
-    (width.max(height) > &LARGEST_SIDE).then(|| format!("its size is {width}x{height}, above {LARGEST_SIDE}"))
-}
-
-/// What the picture has that the stage does not cover yet, or nothing.
-fn not_covered(header: &Header, segments: &Segments) -> Option<String> {
-    let [luma, chroma] = header.depths;
+/// What the picture has, by its header, that the stage does not cover yet, or nothing.
+fn not_covered(header: &Header) -> Option<String> {
+    let Header { width, height, depths: [luma, chroma], .. } = *header;
     let reasons = [
+        (width.max(height) > LARGEST_SIDE, format!("its size is {width}x{height}, above {LARGEST_SIDE}")),
         (header.format == 2, "its format is 4:2:2".into()),
         (header.format == 3 && header.planes() == 3, "its format is 4:4:4".into()),
         (header.format == 3, "its format is 4:4:4 with planes coded apart".into()),
         (header.planes() == 3 && luma != chroma, format!("it has two depths, luma {luma} and chroma {chroma}")),
         (other_scale(header), scales(header)),
-        (segments.slices > 1, "it has several slices".into()),
         (header.tiles != [1, 1], "it has several tiles".into()),
         (header.skip & 2 != 0, "it has lossless units, which keep their samples".into()),
         (
@@ -185,28 +205,6 @@ fn scales(header: &Header) -> String {
     let chroma = if header.planes() == 3 { format!(" and {chroma} for chroma") } else { String::new() };
     let stage = depth.saturating_sub(10);
     format!("its offsets are sent with scale {luma} for luma{chroma}; at depth {depth} the stage has {stage}")
-}
-
-/// The parts after the header, cut but not read.
-struct Parts<'a> {
-    tiles: &'a [u8],
-    segments: &'a [u8],
-    ctus: &'a [u8],
-    skip: &'a [u8],
-    deblocked: &'a [u8],
-    expected: &'a [u8],
-}
-
-impl<'a> Parts<'a> {
-    fn cut(bytes: &'a [u8], header: &Header) -> Parts<'a> {
-        let mut rest = bytes;
-        let [tiles, segments, ctus, skip, deblocked, expected] = header.parts().map(|length| {
-            let (part, after) = rest.split_at(length);
-            rest = after;
-            part
-        });
-        Parts { tiles, segments, ctus, skip, deblocked, expected }
-    }
 }
 
 /// Each CTU's components. It must say the slice segment that it lies in.
@@ -246,16 +244,14 @@ fn component(bytes: &[u8]) -> Result<Offsets, String> {
     }
 }
 
-fn planes(bytes: &[u8], header: &Header, which: &str) -> Result<[Vec<u16>; 3], String> {
-    let mut rest = bytes;
+fn planes(rest: &mut Rest, header: &Header, which: &str) -> Result<[Vec<u16>; 3], Unfit> {
     let mut planes = [const { Vec::new() }; 3];
     for (component, plane) in planes.iter_mut().enumerate() {
-        let (own, after) = rest.split_at(2 * header.plane_samples(component));
-        rest = after;
-        *plane = own.as_chunks().0.iter().map(|pair| u16::from_le_bytes(*pair)).collect();
+        let bytes = rest.part(2 * header.plane_samples(component))?;
+        *plane = bytes.as_chunks().0.iter().map(|pair| u16::from_le_bytes(*pair)).collect();
         let largest = u16::MAX >> (16 - header.depths[component.min(1)]);
         if let Some(sample) = plane.iter().find(|sample| **sample > largest) {
-            return Err(format!("a {which} plane has the sample {sample}, above {largest}"));
+            return Err(format!("a {which} plane has the sample {sample}, above {largest}").into());
         }
     }
     Ok(planes)

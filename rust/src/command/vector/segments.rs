@@ -62,8 +62,8 @@ const NAMES: [&str; 6] = [
 ];
 
 impl Segments {
-    pub fn parse(bytes: &[u8], tiles: &Tiles, header: &Header) -> Result<Segments, String> {
-        let last_ctb = (header.columns * header.rows) as i32 - 1;
+    pub fn parse(bytes: &[u8], tiles: &Tiles, ctbs: usize) -> Result<Segments, String> {
+        let last_ctb = ctbs as i32 - 1;
         let mut all: Vec<[i32; 6]> = Vec::new();
         let mut starts: Vec<Place> = Vec::new();
         for (number, bytes) in bytes.chunks_exact(SEGMENT_BYTES).enumerate() {
@@ -108,4 +108,29 @@ fn judge(segment: &[i32; 6], before: Option<&[i32; 6]>, last_ctb: i32) -> Result
         outside(*number, least, most).map_or(Ok(()), |how| Err(format!("{name} {number}, {how}")))?;
     }
     Ok(())
+}
+
+#[cfg(test)]
+mod tests {
+    use super::{Segments, Tiles};
+
+    /// Segments of one slice that begin at these CTBs of a picture of five columns and four rows, with a boundary between
+    /// tiles at column 2.
+    fn tiled(starts: &[usize]) -> Result<(Tiles, Segments), String> {
+        let tiles = Tiles { columns: vec![0, 2, 5], rows: vec![0, 4], width: 5 };
+        let segment = |start: &usize| [*start as i32, 0, i32::from(*start > 0), 1, 1, 0];
+        let bytes: Vec<u8> = starts.iter().flat_map(segment).flat_map(i32::to_le_bytes).collect();
+        let segments = Segments::parse(&bytes, &tiles, 20)?;
+        Ok((tiles, segments))
+    }
+
+    #[test]
+    fn segments_follow_each_other_tile_after_tile() {
+        // In raster order CTB 2 comes before CTB 5, but its tile comes after.
+        let Ok((tiles, segments)) = tiled(&[0, 5, 2]) else { panic!("they are in order") };
+        let held = [0, 0, 2, 2, 2, 1, 1, 2, 2, 2, 1, 1, 2, 2, 2, 1, 1, 2, 2, 2];
+        assert_eq!((0..20).map(|ctb| segments.holding(ctb, &tiles)).collect::<Vec<_>>(), held);
+        let swapped = tiled(&[0, 2, 5]).err();
+        assert_eq!(swapped.as_deref(), Some("slice segment 2 begins no later than the one before it"));
+    }
 }

@@ -42,7 +42,9 @@ fn archive() -> Result<PathBuf, String> {
     }
 }
 
+/// The archive of a folder. A relative path begins in the package's folder, so an error has it written out.
 fn given(folder: &Path) -> Result<PathBuf, String> {
+    let folder = std::path::absolute(folder).map_err(|why| format!("cannot tell where {FOLDER_GIVEN} is: {why}"))?;
     let archive = folder.join(ARCHIVE);
     watch(&archive);
     if archive.is_file() {

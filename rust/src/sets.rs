@@ -17,8 +17,11 @@ const COMPONENT_BYTES: usize = SET_BYTES / 3;
 /// What is added to an offset to make it a byte.
 const OFFSET_BIAS: u8 = 128;
 
-/// One component's part of a set; offsets as coded, before the multiplication. Values outside the rules can be made,
-/// and are refused ([`Refusal::NoBins`](crate::Refusal::NoBins)) when written.
+/// One component's part of a set. Values outside the rules can be made, and are refused
+/// ([`Refusal::NoBins`](crate::Refusal::NoBins)) when written.
+///
+/// Offsets are as coded, before they are scaled to the depth. Their magnitude is at most 7 at depth 8, 15 at depth 9 and
+/// 31 above.
 #[derive(Clone, Copy, Debug, Default, PartialEq, Eq, Hash)]
 pub enum Offsets {
     /// The component's samples stay as they are.
@@ -28,14 +31,16 @@ pub enum Offsets {
     Band {
         /// The first of the four bands, 0 to 31.
         position: u8,
-        /// What is added in each band.
+        /// What is added in each of them; after band 31 comes band 0.
         offsets: [i8; 4],
     },
     /// Samples are moved by how they stand against two neighbours.
     Edge {
-        /// The direction of the neighbours, 0 to 3.
+        /// Which neighbours a sample is compared with: 0 left and right, 1 above and below, 2 upper left and lower
+        /// right, 3 upper right and lower left.
         class: u8,
-        /// What is added for each shape: the first two are not negative, the last two not positive.
+        /// What is added to a sample below both neighbours, below one and level with the other, above one and level
+        /// with the other, above both. The first two are not negative, the last two not positive.
         offsets: [i8; 4],
     },
 }

@@ -43,6 +43,19 @@ fn an_archive_from_before_this_version_is_named() {
     assert_says(&refused(&folder), &sentence);
 }
 
+#[test]
+fn a_relative_folder_begins_in_the_package() {
+    let mut cargo = Command::new(env!("CARGO"));
+    cargo.args(["check", "--lib", "--quiet", "--color=never", "--offline", "--locked", "--manifest-path"]);
+    let package = Path::new(env!("CARGO_MANIFEST_DIR"));
+    let target = folders::empty("building-relative");
+    cargo.arg(package.join("Cargo.toml")).arg("--target-dir").arg(target);
+    let output = cargo.env("STEAMGUSSET_ARCHIVE_DIR", "no/such").output().expect("cargo runs");
+    let folder = package.join("no/such");
+    let sentence = format!("STEAMGUSSET_ARCHIVE_DIR is {}, where there is no libsteamgusset.a", folder.display());
+    assert_says(&String::from_utf8_lossy(&output.stderr), &sentence);
+}
+
 /// The names in capitals that a text has between quotes.
 fn variables(text: &str) -> Vec<&str> {
     let quoted = text.split('"').skip(1).step_by(2);

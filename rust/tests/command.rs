@@ -3,6 +3,7 @@
 mod folders;
 
 use std::fs;
+use std::os::unix::fs::PermissionsExt;
 use std::path::{Path, PathBuf};
 use std::process::{Command, Stdio};
 
@@ -261,7 +262,8 @@ fn filter_says_what_it_did() {
     let (out, prefix) = (path(&folder, "out.yuv"), path(&folder, "p"));
     let (status, line, _) = steamgusset(&["filter", &vector("s_420_10_clip"), "--output", &out, "--ppm", &prefix]);
     let files = ["before", "after", "difference"].map(|which| format!("{prefix}-{which}.ppm"));
-    let expected = format!("72x56 4:2:0 depth 10: 3113 samples changed, written: {out}, {}\n", files.join(", "));
+    let changed = "3113 samples changed (Y 2382, Cb 353, Cr 378)";
+    let expected = format!("72x56 4:2:0 depth 10: {changed}, written: {out}, {}\n", files.join(", "));
     assert_eq!((status, line), (Some(0), expected));
     assert_eq!(names(&folder), ["out.yuv", "p-after.ppm", "p-before.ppm", "p-difference.ppm"]);
 }
@@ -462,7 +464,8 @@ fn a_comparison_may_be_ppm_and_amplified() {
     let [png, ppm, more] = ["a.png", "a.ppm", "more.png"].map(|name| path(&folder, name));
     let (status, line, error) = steamgusset(&["filter", &name, "--compare", &png]);
     assert_eq!((status, error.as_str()), (Some(0), ""));
-    assert_eq!(line, format!("416x240 4:2:0 depth 8: 35655 samples changed, written: {png}\n"));
+    let changed = "35655 samples changed (Y 23540, Cb 5987, Cr 6128)";
+    assert_eq!(line, format!("416x240 4:2:0 depth 8: {changed}, written: {png}\n"));
     assert_eq!(steamgusset(&["filter", &name, "--compare", &ppm]).0, Some(0));
     assert_eq!(steamgusset(&["filter", &name, "--compare", &more, "--amplify", "30"]).0, Some(0));
     let (width, height, pixels) = pixels_of_png(&fs::read(&png).expect("a PNG"));
@@ -485,7 +488,7 @@ fn an_output_may_be_the_standard_output() {
         let ran = command(&["filter", &name]).args(words).output().expect("the command runs");
         assert!(ran.status.success() && ran.stdout == fs::read(file).expect("the same as a file"));
         let said = String::from_utf8(ran.stderr).expect("text");
-        assert!(one_sentence(&said) && said.contains("samples changed, written: ") && said.contains("standard output"));
+        assert!(one_sentence(&said) && said.contains(" samples changed (Y ") && said.contains("standard output"));
     }
     // A file of that name is asked for by its folder.
     let (status, line, error) = ran(command(&["filter", &name, "-o", "./-"]).current_dir(&folder));
@@ -522,6 +525,22 @@ fn a_failure_leaves_the_files_as_they_were() {
     }
     assert_eq!(names(&folder), ["in.sao", "out.yuv"]);
     assert!(fs::read(&name).expect("the input") == bytes && fs::read(&out).expect("the old file") == b"old");
+}
+
+#[test]
+fn a_file_that_is_written_again_keeps_its_permissions() {
+    let folder = folder("permissions");
+    let (private, long) = (file(&folder, "private.yuv", b"old"), path(&folder, &"n".repeat(255)));
+    let mode = |name: &str| fs::metadata(name).expect("the output").permissions().mode() & 0o777;
+    fs::set_permissions(&private, fs::Permissions::from_mode(0o600)).expect("a private file");
+    std::os::unix::fs::symlink(&private, folder.join("link")).expect("a link");
+    // The link stays one, and a name may be as long as the system allows.
+    for out in [&path(&folder, "link"), &private, &long] {
+        assert_eq!(steamgusset(&["filter", &vector("s_420_8_tiny8x8_ctb4"), "-o", out]).0, Some(0));
+    }
+    assert_eq!((mode(&private), fs::read(&private).ok()), (0o600, fs::read(&long).ok()));
+    assert_eq!(names(&folder), ["link", &"n".repeat(255), "private.yuv"]);
+    assert!(fs::symlink_metadata(folder.join("link")).expect("the link").is_symlink());
 }
 
 #[test]
@@ -662,23 +681,41 @@ fn chroma_and_depths() {
 
 #[test]
 fn sets_that_no_bins_mean() {
-    for line in [
-        "--set band:32:0,0,0,0",
-        "--set edge:4:0,0,0,0",
-        "--set edge:0:-1,0,0,0",
-        "--set band:0:8,0,0,0",
-        "--set off/band:0:1,0,0,0/band:0:1,0,0,0",
-        "--luma off --set band:0:1,0,0,0",
-        "--chroma on --set off/edge:1:0,0,0,0/edge:2:0,0,0,0",
-        "--chroma on --set off/edge:1:0,0,0,0/off",
+    let signs = "has an edge with a negative offset among the first two, or a positive one among the last two";
+    for (line, rule) in [
+        ("--set band:32:0,0,0,0", "Y has the position 32, above 31"),
+        ("--set edge:4:0,0,0,0", "Y has the class 4, above 3"),
+        ("--set edge:0:-1,0,0,0", &format!("Y {signs}")),
+        ("--chroma on --set off/edge:0:0,0,0,0/edge:0:0,0,0,1", &format!("Cr {signs}")),
+        ("--set band:0:8,0,0,0", "Y has the offset 8, outside -7 to 7"),
+        ("--depth 9 --set band:0:0,0,0,-16", "Y has the offset -16, outside -15 to 15"),
+        ("--depth 16 --set edge:0:0,0,0,-128", "Y has the offset -128, outside -31 to 31"),
+        ("--set off/band:0:1,0,0,0/band:0:1,0,0,0", "Cb is on, and its switch is off"),
+        ("--luma off --set band:0:1,0,0,0", "Y is on, and its switch is off"),
+        ("--chroma on --set off/edge:1:0,0,0,0/edge:2:0,0,0,0", "Cr has the class 2, and Cb 1"),
+        ("--chroma on --set off/edge:1:0,0,0,0/off", "Cr has another type than Cb"),
     ] {
         let (status, lines, error) = typed(&format!("bins {line}"));
         assert_eq!((status, lines.as_str()), (Some(1), ""), "{line}");
-        assert_eq!(error, "steamgusset: refused 12: no bins mean this set\n");
+        assert_eq!(error, format!("steamgusset: refused 12: no bins mean this set: {rule}\n"));
     }
     let (status, _, error) = typed("bins --left band:32:0,0,0,0 80 1");
     assert_eq!(status, Some(1));
-    assert_eq!(error, "steamgusset: the left neighbour's set is refused 12: no bins mean this set\n");
+    let sentence = "the left neighbour's set is refused 12: no bins mean this set: Y has the position 32, above 31";
+    assert_eq!(error, format!("steamgusset: {sentence}\n"));
+}
+
+#[test]
+fn a_number_that_no_byte_holds() {
+    for (set, why) in [
+        ("band:31:300,0,0,127", "band:31:300,0,0,127 has the offset 300, outside -128 to 127"),
+        ("off/edge:256:0,0,0,0", "edge:256:0,0,0,0 has 256 where a number from 0 to 255 stands"),
+        ("edge:1:0,0,0", "edge:1:0,0,0 is none of off, band:P:A,B,C,D and edge:K:A,B,C,D"),
+        ("edges:1:0,0,0,0", "edges:1:0,0,0,0 is none of off, band:P:A,B,C,D and edge:K:A,B,C,D"),
+    ] {
+        let (status, _, error) = steamgusset(&["bins", "--set", set]);
+        assert_eq!((status, error), (Some(2), format!("steamgusset: --set: {why}; try steamgusset bins --help\n")));
+    }
 }
 
 #[test]

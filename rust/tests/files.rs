@@ -285,12 +285,47 @@ fn the_parts_are_judged() {
         (misplaced(7), "the slice segment of CTU 7 is 0, not 1"),
         (with_bytes(CTUS + 4, &[3]), "CTU 0 has type 3, which is none of 0, 1 and 2"),
         (with_bytes(CTUS + 28 + 7, &[9]), "CTU 1 has a set whose fourth byte is not 0"),
-        (with_bytes(CTUS + 4, &[1, 40]), "writing the set of CTU 0 is refused 12: no bins mean this set"),
+        (
+            with_bytes(CTUS + 4, &[1, 40]),
+            "writing the set of CTU 0 is refused 12: no bins mean this set: Y has the position 40, above 31",
+        ),
         (with_bytes(planes - 1, &[1]), "the OR of the skip map is 1, but the header says 0"),
         (with_bytes(planes, &[0, 1]), "a deblocked plane has the sample 256, above 255"),
     ];
     for (number, (bytes, why)) in damaged.iter().enumerate() {
         is_damaged(&format!("part-{number}"), bytes, why);
+    }
+}
+
+/// The file with the SAO flags of its one segment changed.
+fn with_flags(mut bytes: Vec<u8>, luma: i32, chroma: i32) -> Vec<u8> {
+    put(&mut bytes, SEGMENT + 12, luma);
+    put(&mut bytes, SEGMENT + 16, chroma);
+    bytes
+}
+
+#[test]
+fn a_flag_that_is_0_leaves_its_component_off() {
+    // Twenty CTUs too, with luma and chroma on.
+    let both = || bundled("s_420_10_clip-000.sao");
+    let first_on = |component: usize| {
+        let types = (0..20).map(|ctu| both()[CTUS + 28 * ctu + 4 + 8 * component]);
+        types.enumerate().find(|(_, kind)| *kind != 0).expect("a CTU that is on")
+    };
+    let left_off = |component: usize, name: &str| {
+        let (ctu, kind) = first_on(component);
+        format!("CTU {ctu} has type {kind} in {name}, which its slice leaves off")
+    };
+    // Without SAO in the sequence no flag is sent, and in monochrome none for chroma.
+    let files = [
+        (with_flags(both(), 0, 1), left_off(0, "Y")),
+        (with_flags(both(), 1, 0), left_off(1, "Cb")),
+        (with(both(), &[(22, 0)]), "slice segment 0 has slice_sao_luma_flag 1, not 0".into()),
+        (with_flags(scaled(), 1, 1), "slice segment 0 has slice_sao_chroma_flag 1, not 0".into()),
+    ];
+    for (number, (bytes, why)) in files.iter().enumerate() {
+        is_damaged(&format!("flags-{number}"), bytes, why);
+        assert!(Vector::parse(bytes).is_err());
     }
 }
 
@@ -450,6 +485,21 @@ fn what_is_announced_takes_no_memory() {
 }
 
 #[test]
+fn a_picture_for_which_there_is_no_memory_ends_nothing() {
+    let folder = folder("no-memory");
+    let all = second::vectors::Header::read(&mut &header(8192, 8192)[..]).expect("a good header").file_bytes();
+    let large = file(&folder, "large.sao", &header(8192, 8192));
+    File::options().write(true).open(&large).and_then(|file| file.set_len(all)).expect("a file");
+    let small = file(&folder, "small.sao", &tiny());
+    let limited = "ulimit -v 600000 && exec \"$0\" check \"$@\"";
+    let (status, lines, error) = ran(Command::new("sh").args(["-c", limited, COMMAND]).args([&large, &small]));
+    assert_eq!(status, Some(1));
+    assert!(error.starts_with(&format!("steamgusset: {}: the file cannot be read: ", large.display())), "{error}");
+    assert!(error.lines().count() == 1 && error.contains("memory"), "{error}");
+    assert!(lines.contains("1 agree, 0 differ, 0 not covered, 0 damaged, 1 cannot be read;"), "{lines}");
+}
+
+#[test]
 fn the_length_is_judged_before_what_is_covered() {
     let path = file(&folder("large"), "large.sao", &header(8, 8200));
     let all = HEADER + 4 * 4 + 24 + 28 * 513 + 1025 + 2 * 2 * (8 * 8200 * 3 / 2);
@@ -503,7 +553,7 @@ fn a_name_stays_on_its_line() {
     assert!(sentences[0].starts_with("steamgusset: '': the file cannot be read: "), "{error}");
     assert!(sentences[1].starts_with("steamgusset: c\\rd: the file cannot be read: "), "{error}");
     let (_, line, _) = in_folder(&["filter", "a\nb\x1b[31m.sao", "-o", "x\ny"]);
-    assert!(line.ends_with(" samples changed, written: x\\ny\n") && folder.join("x\ny").exists(), "{line}");
+    assert!(line.ends_with("), written: x\\ny\n") && folder.join("x\ny").exists(), "{line}");
     for (words, said) in [
         (["help", "x\ny"], "there is no command x\\ny; "),
         (["check", "--x\ny"], "there is no option --x\\ny; "),

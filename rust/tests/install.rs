@@ -98,6 +98,13 @@ fn what_cannot_be_installed_is_told_in_a_sentence() {
     let sentence = "tools/install: there is no /nowhere/libsteamgusset.a, and nothing is installed\n";
     assert_eq!((told(&missing), none.exists()), ((Some(1), sentence.into()), false));
 
+    let folder = fresh("a-folder-in-the-way");
+    std::fs::create_dir_all(folder.join("bin/steamgusset")).expect("a folder in the way");
+    let sentence =
+        format!("tools/install: {}/bin/steamgusset is a folder, and nothing is installed\n", folder.display());
+    assert_eq!(told(&tool().arg(&folder).output().expect("the tool, run")), (Some(1), sentence));
+    assert!(files(&folder).is_empty());
+
     let occupied = "tools/install: the folder /dev/null/include cannot be made, and nothing is installed\n";
     assert_eq!(told(&tool().arg("/dev/null").output().expect("the tool, run")), (Some(1), occupied.into()));
 }

@@ -134,6 +134,7 @@ impl Vector {
         let vector = Vector { header, tiles, segments, ctus, skip, deblocked, filtered };
         vector.slices_hold_the_segments()?;
         vector.segments_hold_the_ctus()?;
+        vector.flags_rule_the_sets()?;
         vector.skip_map_is_announced()?;
         Ok(vector)
     }
@@ -175,6 +176,24 @@ impl Vector {
         }
     }
 
+    /// 7.3.6.1: a flag that is not sent is 0. 7.4.9.3: so is the type of a component whose flag is 0.
+    fn flags_rule_the_sets(&self) -> Result<(), String> {
+        let (enabled, chroma) = (self.header.sao_enabled, self.header.planes == 3);
+        for (number, segment) in self.segments.iter().enumerate() {
+            if (segment.luma && !enabled) || (segment.chroma && !(enabled && chroma)) {
+                return Err(format!("slice segment {number} has a flag for sample adaptive offset that is not sent"));
+            }
+        }
+        for (ctb, (segment, set)) in self.ctus.iter().enumerate() {
+            let Segment { luma, chroma, .. } = self.segments[*segment];
+            let off = |(flag, component): (bool, ComponentSet)| !flag && component != ComponentSet::Off;
+            if [luma, chroma, chroma].into_iter().zip(set.components()).any(off) {
+                return Err(format!("CTB {ctb} has a set for a component that its slice leaves off"));
+            }
+        }
+        Ok(())
+    }
+
     /// 6.5.1: the CTBs' numbers, tile after tile.
     fn decoding_order(&self) -> Vec<usize> {
         let [columns, rows] = &self.tiles;
@@ -213,26 +232,21 @@ impl Vector {
     /// The description of a picture covered by the base: its one slice's flags are the two switches.
     pub fn picture(&self) -> Picture {
         let header = &self.header;
-        let flag = |of: fn(&Segment) -> bool| header.sao_enabled && self.segments.first().is_some_and(of);
+        let slice = &self.segments[0];
         Picture {
             width: header.width as u32,
             height: header.height as u32,
             ctb: 1 << header.ctb_log2,
             format: header.chroma_format_idc,
             depth: header.depth_luma,
-            luma: flag(|segment| segment.luma),
-            chroma: header.planes == 3 && flag(|segment| segment.chroma),
+            luma: slice.luma,
+            chroma: slice.chroma,
         }
     }
 
-    /// The sets of a picture covered by the base. A component whose switch is off is off, whatever the file says of it.
+    /// The sets of the CTUs.
     pub fn sets(&self) -> Vec<CtuSet> {
-        let picture = self.picture();
-        let switched = |component: usize, set: ComponentSet| {
-            if picture.switch(component) { set } else { ComponentSet::Off }
-        };
-        let set = |[luma, cb, cr]: [ComponentSet; 3]| CtuSet::of([switched(0, luma), switched(1, cb), switched(2, cr)]);
-        self.ctus.iter().map(|(_, stored)| set(stored.components())).collect()
+        self.ctus.iter().map(|(_, set)| *set).collect()
     }
 }
 

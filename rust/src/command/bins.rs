@@ -2,6 +2,7 @@
 
 use super::arguments::{Arguments, Known, long, too_many};
 use super::explain::{Element, Explained, Syntax, digits, explained};
+use super::rules::{largest, refused};
 use super::{Ended, Mistake, Status, set_text};
 use std::ffi::OsString;
 use std::io::{self, Write};
@@ -24,7 +25,10 @@ options:
   --set SET          writes this set
 
 A SET is LUMA/CB/CR, each of them off, band:POSITION:A,B,C,D or edge:CLASS:A,B,C,D with four offsets as coded, signs put
-in; what is left out at the end is off. Or it is the 36 hex digits of a table entry.
+in; what is left out at the end is off. Or it is the 36 hex digits of a table entry. POSITION is the first of the four
+bands, 0 to 31. CLASS says which neighbours are compared: 0 left and right, 1 above and below, 2 upper left and lower
+right, 3 upper right and lower left. Offsets are at most 7 either way at depth 8, 15 at depth 9 and 31 above; of an
+edge's, the first two are not negative, the last two not positive. Cr has Cb's type and CLASS.
 
 The CTU is the last of a picture of as many CTUs of 64x64 as its neighbours ask for. What the bins mean, and whether they
 are refused, the stage says; a refusal is on the error stream with its number.
@@ -98,7 +102,7 @@ impl Ctu {
 
     fn syntax(&self) -> Syntax {
         let Picture { luma, chroma, depth, .. } = self.picture;
-        let largest = (1 << (depth.min(10) - 5)) - 1;
+        let largest = usize::from(largest(depth));
         Syntax { luma, chroma, left: self.left.is_some(), up: self.up.is_some(), largest }
     }
 
@@ -109,7 +113,8 @@ impl Ctu {
         let before = [("corner", corner), ("upper", self.up), ("left", self.left)];
         for (which, set) in before.into_iter().filter_map(|(which, set)| Some((which, set?))) {
             let written = stage.write(&set, &mut [0; BINS_BYTES]);
-            written.map_err(|refusal| Mistake::Failed(format!("the {which} neighbour's set is {refusal}")))?;
+            let refused = |refusal| format!("the {which} neighbour's set is {}", refused(refusal, &set, &self.picture));
+            written.map_err(|refusal| Mistake::Failed(refused(refusal)))?;
         }
         Ok(stage)
     }
@@ -125,7 +130,7 @@ impl Ctu {
     fn write(&self, set: &CtuSet, out: &mut dyn Write) -> Ended {
         let mut room = [0; BINS_BYTES];
         let written = self.opened()?.write(set, &mut room);
-        let count = written.map_err(|refusal| Mistake::Failed(refusal.to_string()))?;
+        let count = written.map_err(|refusal| Mistake::Failed(refused(refusal, set, &self.picture)))?;
         self.explain(&room[..count.div_ceil(8)], count, out)?;
         show_set(set, out)?;
         Ok(Status::Fine)

@@ -22,14 +22,15 @@ made ready are asked for at once. Finished rows are taken as they grow, and must
 options:
   --seed N   the order of the calls, a number from 0; without it 1
 
-One FILE may be -, the standard input. A file of that name is ./-.
+One FILE may be -, the standard input; a file of that name is ./-. After -- every word is a file.
 
 A line a file: its name, size, format, depth, CTB size; for each component its CTUs that are off/band/edge; how many
 samples the filter changed; nanoseconds per sample, in which only the calls write, read, deliver, filter (also the early
 ones, which are refused) and finished rows are timed; and whether it agrees. A picture that the stage does not cover yet is
-named with the reason; it changes nothing in the exit status. A file that is damaged or cannot be read gets a sentence on
-the error stream. The last line counts the files, each kind apart, and the blocks that were filtered before the last
-delivery of their picture: the order of the calls decides how many.
+named with the reason; it changes nothing in the exit status. If its header shows that, the rest is not read: only the
+length is judged, where the system knows it, as it does not of a pipe. A file that is damaged or cannot be read gets a
+sentence on the error stream. The last line counts the files, each kind apart, and the blocks that were filtered before
+the last delivery of their picture: the order of the calls decides how many.
 
 examples:
   steamgusset check vectors/*.sao
@@ -103,12 +104,12 @@ fn judged(file: &Input, seed: u64, mut progress: impl FnMut(usize, usize)) -> Re
     let mut run = Run::open(&vector)?;
     let difference = replayed(&mut run, &vector, seed, &mut progress).err();
     let after = [0, 1, 2].map(|component| run.stage.filtered(component));
-    let (picture, sets) = (vector.picture(), vector.sets());
+    let (picture, sets) = (vector.picture(), &vector.sets);
     Ok(Report {
         picture,
-        types: types(&sets),
+        types: types(sets),
         samples: vector.deblocked.iter().map(Vec::len).sum(),
-        changed: changed(&vector.deblocked, after),
+        changed: changed(&vector.deblocked, after).iter().sum(),
         blocks: sets.len() * picture.components() as usize,
         before_last: run.before_delivery,
         nanoseconds: run.clock.nanoseconds(),

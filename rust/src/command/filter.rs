@@ -5,7 +5,7 @@ use super::compare::compared;
 use super::image::Image;
 use super::input::Input;
 use super::output::{Output, Target, write_all};
-use super::run::{Run, changed, format_name};
+use super::run::{NAMES, Run, changed, format_name};
 use super::shuffle::in_order;
 use super::vector::Vector;
 use super::{Ended, Mistake, Status, say};
@@ -32,8 +32,8 @@ options:
   --amplify N            how much the difference is amplified, 1 to 255; without it 16
 
 FILE may be -, the standard input. OUT.yuv or OUT.png may be -, the standard output; then the closing line goes to the
-error stream. A file of that name is ./-. Files are written to a temporary name first, so a failure leaves what was
-there; the input is never written over.
+error stream. A file of that name is ./-. After -- every word is a file. Files are written to a temporary name first, so
+a failure leaves what was there, and one that is there keeps its permissions; the input is never written over.
 
 Colours are those of BT.709 in limited range. The difference is that of luma, in steps of the picture's depth: grey 128
 is no change, lighter is more.
@@ -178,9 +178,15 @@ fn image_files(prefix: &OsStr, kind: &Kind, planes: &Planes, amplify: u8) -> [Ou
     })
 }
 
-fn line(picture: &Picture, changed: usize, outputs: &[Output]) -> String {
+fn line(picture: &Picture, changed: [usize; 3], outputs: &[Output]) -> String {
     let names: Vec<String> = outputs.iter().map(|output| output.target.to_string()).collect();
     let Picture { width, height, depth, .. } = picture;
     let format = format_name(picture);
-    format!("{width}x{height} {format} depth {depth}: {changed} samples changed, written: {}", names.join(", "))
+    let component = |of: usize| format!("{} {}", NAMES[of], changed[of]);
+    let components: Vec<String> = (0..picture.components() as usize).map(component).collect();
+    let (changed, components) = (changed.iter().sum::<usize>(), components.join(", "));
+    format!(
+        "{width}x{height} {format} depth {depth}: {changed} samples changed ({components}), written: {}",
+        names.join(", ")
+    )
 }

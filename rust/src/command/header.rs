@@ -78,7 +78,7 @@ pub struct Header {
     /// Columns and rows.
     pub tiles: [usize; 2],
     pub segments: usize,
-    pub sao_enabled: bool,
+    sao_enabled: bool,
     /// The OR of the skip map.
     pub skip: u8,
     chroma_array_type: u8,
@@ -118,6 +118,11 @@ impl Header {
 
     pub fn planes(&self) -> usize {
         if self.chroma_array_type == 0 { 1 } else { 3 }
+    }
+
+    /// Whether slices send their SAO flags for luma and for chroma (7.3.6.1).
+    pub fn flags_sent(&self) -> [bool; 2] {
+        [self.sao_enabled, self.sao_enabled && self.chroma_array_type != 0]
     }
 
     pub fn plane_samples(&self, component: usize) -> usize {

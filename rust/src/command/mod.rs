@@ -12,6 +12,7 @@ mod input;
 mod letters;
 mod output;
 mod progress;
+mod rules;
 mod run;
 mod set_text;
 mod shuffle;
@@ -117,7 +118,21 @@ fn asked(words: &[OsString], out: &mut dyn Write) -> Ended {
 }
 
 fn subcommand(command: &Command, rest: &[OsString], out: &mut dyn Write) -> Ended {
-    if arguments::asks_for_help(rest) { told_help(command.help, out) } else { (command.run)(rest, out) }
+    if arguments::asks_for_help(rest) {
+        return told_help(command.help, out);
+    }
+    fits(steamgusset::version(), steamgusset::VERSION).map_err(Mistake::Failed)?;
+    (command.run)(rest, out)
+}
+
+/// Judges whether the archive that is linked is of a version that this command knows.
+fn fits(archive: (u32, u32), ours: (u32, u32)) -> Result<(), String> {
+    let shown = |(major, minor): (u32, u32)| format!("{major}.{minor}");
+    if archive.0 == ours.0 && archive.1 >= ours.1 {
+        Ok(())
+    } else {
+        Err(format!("the stage that is linked is {}, and this command is made for {}", shown(archive), shown(ours)))
+    }
 }
 
 fn help(words: &[OsString], out: &mut dyn Write) -> Ended {
@@ -167,4 +182,19 @@ pub fn say(sentence: &str) {
 fn on_one_line(text: &str) -> String {
     let shown = |letter: char| if letter.is_control() { letter.escape_default().to_string() } else { letter.into() };
     if text.is_empty() { "''".into() } else { text.chars().map(shown).collect() }
+}
+
+#[cfg(test)]
+mod tests {
+    use super::fits;
+
+    #[test]
+    fn an_archive_of_another_version_is_found_out() {
+        assert_eq!([(4, 0), (4, 1)].map(|archive| fits(archive, (4, 0))), [Ok(()), Ok(())]);
+        for archive in [(3, 9), (5, 2), (4, 1)] {
+            let sentence =
+                format!("the stage that is linked is {}.{}, and this command is made for 4.2", archive.0, archive.1);
+            assert_eq!(fits(archive, (4, 2)), Err(sentence));
+        }
+    }
 }

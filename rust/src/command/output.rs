@@ -1,7 +1,8 @@
 //! Output files that are there whole or not at all, and the standard output in the place of one.
 //!
 //! Each file is written to a temporary name beside its target. Only when all are written do they take their names, so a
-//! failure leaves what was there before. A target that is no regular file, such as a pipe, is written as it is.
+//! failure leaves what was there before. A file that is there is replaced only by those who may write it, and keeps its
+//! permissions. A target that is no regular file, such as a pipe, is written as it is.
 
 use super::input::Input;
 use super::{Mistake, on_one_line};
@@ -45,9 +46,9 @@ pub struct Output {
 pub fn write_all(outputs: &[Output], input: &Input, out: &mut dyn Write) -> Result<(), Mistake> {
     apart(outputs, input).map_err(Mistake::Failed)?;
     let mut waiting = Vec::new();
-    for Output { target, bytes } in outputs {
+    for (number, Output { target, bytes }) in outputs.iter().enumerate() {
         if let Target::File(path) = target {
-            let written = Waiting::write(&resolved(path), bytes);
+            let written = Waiting::write(&resolved(path), number, bytes);
             waiting.push((target, written.map_err(|why| not_written(target, &why))?));
         }
     }
@@ -98,16 +99,21 @@ struct Waiting {
 }
 
 impl Waiting {
-    fn write(target: &Path, bytes: &[u8]) -> io::Result<Waiting> {
-        if fs::metadata(target).is_ok_and(|there| !there.is_file()) {
-            fs::OpenOptions::new().write(true).open(target)?.write_all(bytes)?;
-            return Ok(Waiting { temporary: None, target: target.to_path_buf() });
-        }
-        let mut name = target.file_name().ok_or(io::ErrorKind::InvalidFilename)?.to_os_string();
-        name.push(format!(".{}.part", std::process::id()));
-        let temporary = target.with_file_name(name);
+    /// Writes the output of this number. Its temporary name is short, so that every name can be asked for.
+    fn write(target: &Path, number: usize, bytes: &[u8]) -> io::Result<Waiting> {
+        let permissions = match File::options().write(true).open(target) {
+            Ok(mut there) if !there.metadata()?.is_file() => {
+                there.write_all(bytes)?;
+                return Ok(Waiting { temporary: None, target: target.to_path_buf() });
+            }
+            Ok(there) => Some(there.metadata()?.permissions()),
+            Err(why) if why.kind() == io::ErrorKind::NotFound => None,
+            Err(why) => return Err(why),
+        };
+        let temporary = target.with_file_name(format!(".steamgusset.{}.{number}.part", std::process::id()));
         let mut file = File::create_new(&temporary)?;
         let waiting = Waiting { temporary: Some(temporary), target: target.to_path_buf() };
+        permissions.map_or(Ok(()), |permissions| file.set_permissions(permissions))?;
         file.write_all(bytes)?;
         file.sync_all()?;
         Ok(waiting)

@@ -3,6 +3,7 @@
 //! Method: one stage writes the sets to bins. Another reads them back and takes the blocks, step after step, in
 //! whatever order it is given; after each step the blocks that it may have made ready are asked for at once.
 
+use super::rules::refused;
 use super::shuffle::Step;
 use super::vector::Vector;
 use std::time::{Duration, Instant};
@@ -52,7 +53,7 @@ impl<'a> Run<'a> {
     /// Opens the stage for a picture that it covers and writes the sets to bins. A set that no bins mean is a fault of
     /// the file.
     pub fn open(vector: &'a Vector) -> Result<Run<'a>, String> {
-        let (picture, sets) = (vector.picture(), vector.sets());
+        let (picture, sets) = (vector.picture(), vector.sets.clone());
         let mut clock = Clock::default();
         let bins = written(picture, &sets, &mut clock)?;
         let stage = opened(picture)?;
@@ -140,7 +141,8 @@ fn written(picture: Picture, sets: &[CtuSet], clock: &mut Clock) -> Result<Vec<B
     for (ctu, set) in sets.iter().enumerate() {
         let mut bytes = vec![0; BINS_BYTES];
         let count = clock.time(|| stage.write(set, &mut bytes));
-        let count = count.map_err(|refusal| format!("writing the set of CTU {ctu} is {refusal}"))?;
+        let count =
+            count.map_err(|refusal| format!("writing the set of CTU {ctu} is {}", refused(refusal, set, &picture)))?;
         bytes.truncate(count.div_ceil(8));
         all.push(Bins { bytes, count });
     }
@@ -154,10 +156,10 @@ fn neighbourhood(ctb: usize, columns: usize, rows: usize) -> Vec<usize> {
     around(row, rows).flat_map(|y| around(column, columns).map(move |x| y * columns + x)).collect()
 }
 
-/// How many samples of the planes differ.
-pub fn changed(before: &[Vec<u16>; 3], after: [&[u16]; 3]) -> usize {
-    let differing = |(before, after): (&Vec<u16>, &[u16])| before.iter().zip(after).filter(|(a, b)| a != b).count();
-    before.iter().zip(after).map(differing).sum()
+/// How many samples of each plane differ.
+pub fn changed(before: &[Vec<u16>; 3], after: [&[u16]; 3]) -> [usize; 3] {
+    let differing = |plane: usize| before[plane].iter().zip(after[plane]).filter(|(a, b)| a != b).count();
+    [0, 1, 2].map(differing)
 }
 
 /// The format as it is spoken of.

@@ -16,8 +16,7 @@ pub fn parse(text: &str) -> Result<CtuSet, String> {
         return Err(format!("{text} has more than three components"));
     }
     for (component, text) in components.iter_mut().zip(typed) {
-        *component =
-            offsets(text).ok_or_else(|| format!("{text} is none of off, band:P:A,B,C,D and edge:K:A,B,C,D"))?;
+        *component = offsets(text)?;
     }
     let [luma, cb, cr] = components;
     Ok(CtuSet { luma, cb, cr })
@@ -28,19 +27,32 @@ fn entry(digits: &str) -> Result<CtuSet, String> {
     bytes.and_then(|bytes| CtuSet::from_bytes(&bytes)).ok_or_else(|| format!("{digits} is the table entry of no set"))
 }
 
-fn offsets(text: &str) -> Option<Offsets> {
+fn offsets(text: &str) -> Result<Offsets, String> {
     if text == "off" {
-        return Some(Offsets::Off);
+        return Ok(Offsets::Off);
     }
+    let form = || format!("{text} is none of off, band:P:A,B,C,D and edge:K:A,B,C,D");
+    let (kind, number, list) = parted(text).ok_or_else(form)?;
+    // What a byte does not hold cannot be handed to the stage.
+    let number =
+        u8::try_from(number).map_err(|_| format!("{text} has {number} where a number from 0 to 255 stands"))?;
+    let offset =
+        |offset: i64| i8::try_from(offset).map_err(|_| format!("{text} has the offset {offset}, outside -128 to 127"));
+    let [a, b, c, d] = list.map(offset);
+    let offsets = [a?, b?, c?, d?];
+    match kind {
+        "band" => Ok(Offsets::Band { position: number, offsets }),
+        "edge" => Ok(Offsets::Edge { class: number, offsets }),
+        _ => Err(form()),
+    }
+}
+
+/// The kind, the number after it and the four offsets.
+fn parted(text: &str) -> Option<(&str, i64, [i64; 4])> {
     let (kind, rest) = text.split_once(':')?;
     let (number, list) = rest.split_once(':')?;
-    let list: Vec<i8> = list.split(',').map(|offset| offset.parse().ok()).collect::<Option<_>>()?;
-    let (number, offsets) = (number.parse().ok()?, list.try_into().ok()?);
-    match kind {
-        "band" => Some(Offsets::Band { position: number, offsets }),
-        "edge" => Some(Offsets::Edge { class: number, offsets }),
-        _ => None,
-    }
+    let list: Vec<i64> = list.split(',').map(|offset| offset.parse().ok()).collect::<Option<_>>()?;
+    Some((kind, number.parse().ok()?, list.try_into().ok()?))
 }
 
 /// The set as it can be typed.

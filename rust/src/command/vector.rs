@@ -9,6 +9,7 @@ mod segments;
 
 use super::header::{HEADER_BYTES, Header, numbers, outside};
 use super::input::Input;
+use super::run::NAMES;
 use segments::{Segments, Tiles};
 use std::cmp::Ordering;
 use std::fmt;
@@ -54,8 +55,8 @@ pub struct Vector {
     header: Header,
     /// The two SAO flags of its slice.
     flags: [bool; 2],
-    /// Each CTU's three components in raster order, merges resolved.
-    ctus: Vec<[Offsets; 3]>,
+    /// Each CTU's set in raster order, merges resolved.
+    pub sets: Vec<CtuSet>,
     pub deblocked: [Vec<u16>; 3],
     pub expected: [Vec<u16>; 3],
 }
@@ -70,7 +71,10 @@ impl Vector {
         rest.has_its_length()?;
         match not_covered(&header) {
             Some(why) => Err(Unfit::NotCovered(why)),
-            None => Vector::parse(header, &mut rest),
+            None => {
+                rest.has_room()?;
+                Vector::parse(header, &mut rest)
+            }
         }
     }
 
@@ -78,8 +82,9 @@ impl Vector {
     fn parse(header: Header, rest: &mut Rest) -> Result<Vector, Unfit> {
         let [tiles, segments, ctu, skip, ..] = header.parts();
         let tiles = Tiles::parse(&rest.part(tiles)?, &header)?;
-        let segments = Segments::parse(&rest.part(segments)?, &tiles, header.columns * header.rows)?;
-        let ctus = ctus(&rest.part(ctu)?, &segments, &tiles, &header)?;
+        let (bytes, ctbs) = (rest.part(segments)?, header.columns * header.rows);
+        let segments = Segments::parse(&bytes, &tiles, ctbs, header.flags_sent())?;
+        let sets = sets(&rest.part(ctu)?, &segments, &tiles, &header)?;
         let skip = rest.part(skip)?.iter().fold(0, |all, bits| all | bits);
         if skip != header.skip {
             return Err(format!("the OR of the skip map is {skip}, but the header says {}", header.skip).into());
@@ -90,13 +95,13 @@ impl Vector {
         if segments.slices > 1 {
             return Err(Unfit::NotCovered("it has several slices".into()));
         }
-        Ok(Vector { flags: segments.flags, ctus, deblocked, expected, header })
+        Ok(Vector { flags: segments.flags(0), sets, deblocked, expected, header })
     }
 
     /// The picture's description: its slice's flags are the two switches.
     pub fn picture(&self) -> Picture {
         let header = &self.header;
-        let [luma, chroma] = self.flags.map(|flag| flag && header.sao_enabled);
+        let [luma, chroma] = self.flags;
         Picture {
             width: header.width as u32,
             height: header.height as u32,
@@ -104,20 +109,8 @@ impl Vector {
             format: header.format,
             depth: header.depths[0],
             luma,
-            chroma: chroma && header.planes() == 3,
+            chroma,
         }
-    }
-
-    /// The picture's sets. Where a switch is off nothing is coded, which means off.
-    pub fn sets(&self) -> Vec<CtuSet> {
-        let Picture { luma, chroma, .. } = self.picture();
-        let switched = |on: bool, offsets: Offsets| if on { offsets } else { Offsets::Off };
-        let set = |ctu: &[Offsets; 3]| CtuSet {
-            luma: switched(luma, ctu[0]),
-            cb: switched(chroma, ctu[1]),
-            cr: switched(chroma, ctu[2]),
-        };
-        self.ctus.iter().map(set).collect()
     }
 }
 
@@ -144,6 +137,16 @@ impl Rest {
             let left = known.len().saturating_sub(self.file.stream_position()?);
             self.has(self.read + left as usize)?;
         }
+        Ok(())
+    }
+
+    /// Judges whether there is memory for the picture, before it is read: the planes of the file, those of the stage and
+    /// the finished rows are two and a half times the file.
+    fn has_room(&self) -> io::Result<()> {
+        let mut room = Vec::<u8>::new();
+        room.try_reserve_exact(3 * self.all)?;
+        // Room that nothing uses is not asked for, once the compiler has seen that.
+        std::hint::black_box(&room);
         Ok(())
     }
 
@@ -207,28 +210,33 @@ fn scales(header: &Header) -> String {
     format!("its offsets are sent with scale {luma} for luma{chroma}; at depth {depth} the stage has {stage}")
 }
 
-/// Each CTU's components. It must say the slice segment that it lies in.
-fn ctus(bytes: &[u8], segments: &Segments, tiles: &Tiles, header: &Header) -> Result<Vec<[Offsets; 3]>, String> {
+/// Each CTU's set. It must say the slice segment that it lies in.
+fn sets(bytes: &[u8], segments: &Segments, tiles: &Tiles, header: &Header) -> Result<Vec<CtuSet>, String> {
     let mut all = Vec::new();
     for (ctu, bytes) in bytes.chunks_exact(header.ctu_bytes()).enumerate() {
-        let (segment, components) = bytes.split_at(4);
-        let right = segments.holding(ctu, tiles) as i32;
-        for said in numbers(segment) {
-            let wrong = outside(said, right, right);
+        let (said, components) = bytes.split_at(4);
+        let segment = segments.holding(ctu, tiles);
+        for said in numbers(said) {
+            let wrong = outside(said, segment as i32, segment as i32);
             wrong.map_or(Ok(()), |how| Err(format!("the slice segment of CTU {ctu} is {said}, {how}")))?;
         }
-        all.push(sets(components).map_err(|why| format!("CTU {ctu} {why}"))?);
+        all.push(set(components, segments.flags(segment)).map_err(|why| format!("CTU {ctu} {why}"))?);
     }
     Ok(all)
 }
 
-/// One CTU's components; an absent one is off.
-fn sets(bytes: &[u8]) -> Result<[Offsets; 3], String> {
+/// One CTU's set. A component that is absent is off, and so is one whose flag is 0 in the slice (7.4.9.3).
+fn set(bytes: &[u8], [luma, chroma]: [bool; 2]) -> Result<CtuSet, String> {
     let mut all = [Offsets::Off; 3];
-    for (offsets, bytes) in all.iter_mut().zip(bytes.chunks_exact(8)) {
+    let components = NAMES.iter().zip([luma, chroma, chroma]);
+    for ((offsets, bytes), (name, flag)) in all.iter_mut().zip(bytes.chunks_exact(8)).zip(components) {
         *offsets = component(bytes)?;
+        if *offsets != Offsets::Off && !flag {
+            return Err(format!("has type {} in {name}, which its slice leaves off", bytes[0]));
+        }
     }
-    Ok(all)
+    let [luma, cb, cr] = all;
+    Ok(CtuSet { luma, cb, cr })
 }
 
 fn component(bytes: &[u8]) -> Result<Offsets, String> {

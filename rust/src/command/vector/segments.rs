@@ -47,8 +47,8 @@ pub struct Segments {
     /// Where each begins.
     starts: Vec<Place>,
     pub slices: usize,
-    /// slice_sao_luma_flag and slice_sao_chroma_flag of the first slice.
-    pub flags: [bool; 2],
+    /// slice_sao_luma_flag and slice_sao_chroma_flag of each.
+    flags: Vec<[bool; 2]>,
 }
 
 /// The names of a segment's six numbers.
@@ -62,13 +62,14 @@ const NAMES: [&str; 6] = [
 ];
 
 impl Segments {
-    pub fn parse(bytes: &[u8], tiles: &Tiles, ctbs: usize) -> Result<Segments, String> {
+    /// The segments of so many CTBs, with the SAO flags that are sent; one that is not is 0.
+    pub fn parse(bytes: &[u8], tiles: &Tiles, ctbs: usize, sent: [bool; 2]) -> Result<Segments, String> {
         let last_ctb = ctbs as i32 - 1;
         let mut all: Vec<[i32; 6]> = Vec::new();
         let mut starts: Vec<Place> = Vec::new();
         for (number, bytes) in bytes.chunks_exact(SEGMENT_BYTES).enumerate() {
             let segment = array(bytes);
-            judge(&segment, all.last(), last_ctb).map_err(|why| format!("slice segment {number} has {why}"))?;
+            judge(&segment, all.last(), last_ctb, sent).map_err(|why| format!("slice segment {number} has {why}"))?;
             let start = tiles.place(segment[0] as usize);
             if starts.last().is_some_and(|before| *before >= start) {
                 return Err(format!("slice segment {number} begins no later than the one before it"));
@@ -77,8 +78,13 @@ impl Segments {
             starts.push(start);
         }
         let slices = all.iter().filter(|segment| segment[2] == 0).count();
-        let flags = all.first().map_or([false; 2], |first| [first[3] == 1, first[4] == 1]);
+        let flags = all.iter().map(|segment| [segment[3] == 1, segment[4] == 1]).collect();
         Ok(Segments { starts, slices, flags })
+    }
+
+    /// The two SAO flags of a segment.
+    pub fn flags(&self, segment: usize) -> [bool; 2] {
+        self.flags[segment]
     }
 
     /// The number of the segment that a CTB lies in.
@@ -91,18 +97,18 @@ impl Segments {
 
 /// Judges a segment's numbers one after another (7.4.7.1). A dependent one has the slice address and the flags of the one
 /// before it; the first is independent and begins at CTB 0.
-fn judge(segment: &[i32; 6], before: Option<&[i32; 6]>, last_ctb: i32) -> Result<(), String> {
+fn judge(segment: &[i32; 6], before: Option<&[i32; 6]>, last_ctb: i32, sent: [bool; 2]) -> Result<(), String> {
     let [address, _, dependent, ..] = *segment;
     let slice = if dependent == 1 { before } else { None };
     let exactly = |number: i32| [number, number];
-    let flag = |place: usize| slice.map_or([0, 1], |slice| exactly(slice[place]));
+    let flag = |place: usize, sent: bool| slice.map_or([0, i32::from(sent)], |slice| exactly(slice[place]));
     let limits = [
         before.map_or([0, 0], |_| [0, last_ctb]),
         exactly(slice.map_or(address, |slice| slice[1])),
         before.map_or([0, 0], |_| [0, 1]),
-        flag(3),
-        flag(4),
-        flag(5),
+        flag(3, sent[0]),
+        flag(4, sent[1]),
+        flag(5, true),
     ];
     for ((name, number), [least, most]) in NAMES.iter().zip(segment).zip(limits) {
         outside(*number, least, most).map_or(Ok(()), |how| Err(format!("{name} {number}, {how}")))?;
@@ -120,7 +126,7 @@ mod tests {
         let tiles = Tiles { columns: vec![0, 2, 5], rows: vec![0, 4], width: 5 };
         let segment = |start: &usize| [*start as i32, 0, i32::from(*start > 0), 1, 1, 0];
         let bytes: Vec<u8> = starts.iter().flat_map(segment).flat_map(i32::to_le_bytes).collect();
-        let segments = Segments::parse(&bytes, &tiles, 20)?;
+        let segments = Segments::parse(&bytes, &tiles, 20, [true; 2])?;
         Ok((tiles, segments))
     }
 

@@ -10,12 +10,12 @@ use std::process::Command;
 const FRONT_PAGE: &str = include_str!("../src/lib.rs");
 const SCRIPT: &str = include_str!("../build.rs");
 
-/// What cargo says when it is to build with the archive of a folder.
-fn refused(folder: &Path) -> String {
+/// What cargo says when it is to build with the archive of a folder that is given so, among files in another.
+fn refused(given: &Path, target: &Path) -> String {
     let mut cargo = Command::new(env!("CARGO"));
     cargo.args(["check", "--lib", "--quiet", "--color=never", "--offline", "--locked", "--manifest-path"]);
     cargo.arg(Path::new(env!("CARGO_MANIFEST_DIR")).join("Cargo.toml"));
-    cargo.arg("--target-dir").arg(folder.join("target")).env("STEAMGUSSET_ARCHIVE_DIR", folder);
+    cargo.arg("--target-dir").arg(target.join("target")).env("STEAMGUSSET_ARCHIVE_DIR", given);
     let output = cargo.output().expect("cargo runs");
     assert!(!output.status.success(), "the package is built without its archive");
     String::from_utf8_lossy(&output.stderr).into()
@@ -31,7 +31,7 @@ fn assert_says(said: &str, sentence: &str) {
 fn a_folder_without_an_archive_is_named() {
     let folder = folders::empty("building-without-archive");
     let sentence = format!("STEAMGUSSET_ARCHIVE_DIR is {}, where there is no libsteamgusset.a", folder.display());
-    assert_says(&refused(&folder), &sentence);
+    assert_says(&refused(&folder, &folder), &sentence);
 }
 
 #[test]
@@ -40,20 +40,14 @@ fn an_archive_from_before_this_version_is_named() {
     let archive = folder.join("libsteamgusset.a");
     fs::write(&archive, "!<arch>\nsg_open\n").unwrap_or_else(|why| panic!("{}: {why}", archive.display()));
     let sentence = format!("{} is of another version than this package: it has no sg_version", archive.display());
-    assert_says(&refused(&folder), &sentence);
+    assert_says(&refused(&folder, &folder), &sentence);
 }
 
 #[test]
 fn a_relative_folder_begins_in_the_package() {
-    let mut cargo = Command::new(env!("CARGO"));
-    cargo.args(["check", "--lib", "--quiet", "--color=never", "--offline", "--locked", "--manifest-path"]);
-    let package = Path::new(env!("CARGO_MANIFEST_DIR"));
-    let target = folders::empty("building-relative");
-    cargo.arg(package.join("Cargo.toml")).arg("--target-dir").arg(target);
-    let output = cargo.env("STEAMGUSSET_ARCHIVE_DIR", "no/such").output().expect("cargo runs");
-    let folder = package.join("no/such");
+    let folder = Path::new(env!("CARGO_MANIFEST_DIR")).join("no/such");
     let sentence = format!("STEAMGUSSET_ARCHIVE_DIR is {}, where there is no libsteamgusset.a", folder.display());
-    assert_says(&String::from_utf8_lossy(&output.stderr), &sentence);
+    assert_says(&refused(Path::new("no/such"), &folders::empty("building-relative")), &sentence);
 }
 
 /// The names in capitals that a text has between quotes.

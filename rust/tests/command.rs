@@ -1,25 +1,18 @@
 //! The command as it is run: its lines, its sentences, its files and its exit status.
 
 mod folders;
+mod shell;
 
+use shell::{Ran, ran, told};
 use std::fs;
 use std::os::unix::fs::PermissionsExt;
 use std::path::{Path, PathBuf};
 use std::process::{Command, Stdio};
 
-/// Exit status, standard output, error stream.
-type Ran = (Option<i32>, String, String);
-
 fn command(arguments: &[&str]) -> Command {
     let mut command = Command::new(env!("CARGO_BIN_EXE_steamgusset"));
     command.args(arguments).stdin(Stdio::null());
     command
-}
-
-fn ran(command: &mut Command) -> Ran {
-    let ran = command.output().expect("the command runs");
-    let text = |bytes: Vec<u8>| String::from_utf8(bytes).expect("text");
-    (ran.status.code(), text(ran.stdout), text(ran.stderr))
 }
 
 /// Runs it with a standard output that nothing reads.
@@ -32,8 +25,7 @@ fn unread(arguments: &[&str]) -> Ran {
 /// Runs it with a standard output of the test's own.
 fn ran_to(arguments: &[&str], out: impl Into<Stdio>) -> Ran {
     let child = command(arguments).stdout(out).stderr(Stdio::piped()).spawn().expect("the command runs");
-    let ended = child.wait_with_output().expect("the command ends");
-    (ended.status.code(), String::new(), String::from_utf8(ended.stderr).expect("text"))
+    told(child.wait_with_output().expect("the command ends"))
 }
 
 /// Runs it with a standard output that is closed.
@@ -328,14 +320,18 @@ fn images_show_before_after_and_difference() {
     assert!(images[0] != images[1]);
 }
 
-#[test]
-fn the_difference_is_amplified_as_asked() {
-    let folder = folder("amplify");
-    // Band 31, offset 7, in one sample of an 8x8 picture.
+/// A file with an 8x8 picture of which one sample changes: band 31, offset 7.
+fn one_changes(folder: &Path) -> String {
     let mut before = [0; 64];
     let mut after = [0; 64];
     (before[9], after[9]) = (248, 255);
-    let name = file(&folder, "one.sao", &made(8, 8, &[band(31, [7, 0, 0, 0])], &before, &after));
+    file(folder, "one.sao", &made(8, 8, &[band(31, [7, 0, 0, 0])], &before, &after))
+}
+
+#[test]
+fn the_difference_is_amplified_as_asked() {
+    let folder = folder("amplify");
+    let name = one_changes(&folder);
     let (out, prefix) = (path(&folder, "out.yuv"), path(&folder, "p"));
     for (amplify, grey) in [("1", 135), ("3", 149), ("255", 255)] {
         let arguments = ["filter", &name, "-o", &out, "--png", &prefix, "--amplify", amplify];
@@ -369,10 +365,7 @@ fn block(image: &[[u8; 3]], width: usize, (x, y): (usize, usize), size: (usize, 
 #[test]
 fn a_small_picture_is_compared_whole() {
     let folder = folder("compare-small");
-    let mut before = [0; 64];
-    let mut after = [0; 64];
-    (before[9], after[9]) = (248, 255);
-    let name = file(&folder, "one.sao", &made(8, 8, &[band(31, [7, 0, 0, 0])], &before, &after));
+    let name = one_changes(&folder);
     let (width, all, images) = compared(&folder, &name);
     // Columns as wide as the names, of which a letter takes 12 pixels, or as the detail, and 12 pixels between all.
     assert_eq!((width, all.len() / width), (12 + 72 + 12 + 64 + 12 + 120 + 12, 12 + 14 + 12 + 8 + 12 + 64 + 12));

@@ -1,35 +1,28 @@
 //! Vector files as `steamgusset` meets them: covered or not, damaged, without an end, or not to be read.
 
 mod folders;
+mod shell;
 
 use second::filter_picture;
 use second::random::Random;
-use second::vectors::Vector;
+use second::vectors::{Header, Vector};
+use shell::{Ran, ran, told};
 use std::fs::{self, File};
 use std::io::{Read, Seek, SeekFrom};
 use std::os::unix::fs::PermissionsExt;
 use std::path::{Path, PathBuf};
 use std::process::{Command, Stdio};
 
-/// Exit status, standard output, error stream.
-type Ran = (Option<i32>, String, String);
-
 const COMMAND: &str = env!("CARGO_BIN_EXE_steamgusset");
-
-fn ran(command: &mut Command) -> Ran {
-    let ran = command.output().expect("the command runs");
-    let text = |bytes: Vec<u8>| String::from_utf8(bytes).expect("text");
-    (ran.status.code(), text(ran.stdout), text(ran.stderr))
-}
 
 fn check(file: &Path) -> Ran {
     ran(Command::new(COMMAND).arg("check").arg(file).stdin(Stdio::null()))
 }
 
 /// The command with 256 MB of memory.
-fn check_in_little_memory(file: &Path) -> Ran {
-    let limited = "ulimit -v 262144 && exec \"$0\" check \"$1\"";
-    ran(Command::new("sh").args(["-c", limited, COMMAND]).arg(file).stdin(Stdio::null()))
+fn check_in_little_memory(files: &[&Path]) -> Ran {
+    let limited = "ulimit -v 262144 && exec \"$0\" check \"$@\"";
+    ran(Command::new("sh").args(["-c", limited, COMMAND]).args(files).stdin(Stdio::null()))
 }
 
 /// A folder of the test's own, empty.
@@ -344,7 +337,7 @@ fn no_more_is_read_than_the_header_announces() {
     // Two gigabytes that take no room on the disk.
     let long = file(&folder, "long.sao", &twenty_ctus());
     File::options().write(true).open(&long).and_then(|file| file.set_len(2 << 30)).expect("a long file");
-    is_damage(check_in_little_memory(&long), &long, goes_on);
+    is_damage(check_in_little_memory(&[&long]), &long, goes_on);
     fs::remove_file(&long).expect("the long file goes away");
 }
 
@@ -358,8 +351,7 @@ fn check_endless(bytes: Vec<u8>) -> Ran {
     let writer = std::thread::spawn(move || std::io::copy(&mut bytes.chain(std::io::repeat(0)), &mut pipe));
     let ended = child.wait_with_output().expect("the command ends");
     assert!(writer.join().expect("a thread that ends").is_err());
-    let text = |bytes: Vec<u8>| String::from_utf8(bytes).expect("text");
-    (ended.status.code(), text(ended.stdout), text(ended.stderr))
+    told(ended)
 }
 
 #[test]
@@ -382,12 +374,18 @@ fn a_pipe_without_end_is_left() {
     is_damage(check_endless(header(8192, 8192)), stdin, "the tile column boundaries do not rise from 0 to 512");
 }
 
-/// How many bytes check reads of a file as long as its header announces, with zeros after these bytes.
+/// A file that begins with these bytes and is as long as its header announces, by zeros that take no room on the disk.
+fn lengthened(folder: &Path, bytes: &[u8]) -> (PathBuf, File) {
+    let path = file(folder, "lengthened.sao", bytes);
+    let announced = Header::read(&mut &bytes[..]).expect("a good header").file_bytes();
+    let opened = File::options().read(true).write(true).open(&path).expect("a file");
+    opened.set_len(announced).expect("a long file");
+    (path, opened)
+}
+
+/// What check says of such a file, and how many bytes it reads.
 fn bytes_read(name: &str, bytes: &[u8]) -> (Ran, u64) {
-    let path = file(&folder(name), "read.sao", bytes);
-    let announced = second::vectors::Header::read(&mut &bytes[..]).expect("a good header").file_bytes();
-    let mut read = File::options().read(true).write(true).open(&path).expect("a file");
-    read.set_len(announced).expect("zeros that take no room on the disk");
+    let (_, mut read) = lengthened(&folder(name), bytes);
     // The command and the test share the place in the file.
     let ran = ran(Command::new(COMMAND).args(["check", "-"]).stdin(read.try_clone().expect("the same file")));
     (ran, read.stream_position().expect("the place in the file"))
@@ -480,19 +478,15 @@ fn what_is_announced_takes_no_memory() {
         let (ctbs, coding_blocks, samples) = (side.div_ceil(16).pow(2), (side / 8).pow(2), side.pow(2) * 3 / 2);
         let bytes = CTUS as u64 + 28 * ctbs + coding_blocks + 2 * 2 * samples;
         let why = format!("the file ends after 136 of the {bytes} bytes that its header announces");
-        is_damage(check_in_little_memory(&path), &path, &why);
+        is_damage(check_in_little_memory(&[&path]), &path, &why);
     }
 }
 
 #[test]
 fn a_picture_for_which_there_is_no_memory_ends_nothing() {
     let folder = folder("no-memory");
-    let all = second::vectors::Header::read(&mut &header(8192, 8192)[..]).expect("a good header").file_bytes();
-    let large = file(&folder, "large.sao", &header(8192, 8192));
-    File::options().write(true).open(&large).and_then(|file| file.set_len(all)).expect("a file");
-    let small = file(&folder, "small.sao", &tiny());
-    let limited = "ulimit -v 600000 && exec \"$0\" check \"$@\"";
-    let (status, lines, error) = ran(Command::new("sh").args(["-c", limited, COMMAND]).args([&large, &small]));
+    let (large, small) = (lengthened(&folder, &header(8192, 8192)).0, file(&folder, "small.sao", &tiny()));
+    let (status, lines, error) = check_in_little_memory(&[&large, &small]);
     assert_eq!(status, Some(1));
     assert!(error.starts_with(&format!("steamgusset: {}: the file cannot be read: ", large.display())), "{error}");
     assert!(error.lines().count() == 1 && error.contains("memory"), "{error}");
@@ -522,8 +516,12 @@ fn cannot_be_read(command: &[&str], path: &Path) {
     assert!(status == Some(1) && lines.is_empty() && error.starts_with(&sentence), "{error}");
 }
 
-/// Runs a program as a user without rights, where this user may.
-const AS_NOBODY: [&str; 4] = ["setpriv", "--reuid=65534", "--regid=65534", "--clear-groups"];
+/// The words that run a program as a user without rights, where this user may do that and the other can read the file.
+fn as_nobody(file: &Path) -> Option<Vec<&'static str>> {
+    let words = ["setpriv", "--reuid=65534", "--regid=65534", "--clear-groups"];
+    let tried = Command::new(words[0]).args(&words[1..]).args([COMMAND, "check"]).arg(file).output();
+    tried.is_ok_and(|ran| ran.status.success()).then(|| words.to_vec())
+}
 
 #[test]
 fn a_file_that_cannot_be_read_is_not_called_damaged() {
@@ -532,13 +530,31 @@ fn a_file_that_cannot_be_read_is_not_called_damaged() {
     cannot_be_read(&[], &folder);
     let [open, locked] = ["open.sao", "locked.sao"].map(|name| file(&folder, name, &tiny()));
     fs::set_permissions(&locked, fs::Permissions::from_mode(0o000)).expect("a locked file");
-    let nobody = Command::new(AS_NOBODY[0]).args(&AS_NOBODY[1..]).args([COMMAND, "check"]).arg(open).output();
-    match fs::read(&locked) {
-        Err(_) => cannot_be_read(&[], &locked),
-        // Root may read every file.
-        Ok(_) if nobody.is_ok_and(|ran| ran.status.success()) => cannot_be_read(&AS_NOBODY, &locked),
-        Ok(_) => println!("not tested: a file without permission, since this user may read it all the same"),
+    // Root may read every file.
+    match (fs::read(&locked), as_nobody(&open)) {
+        (Err(_), _) => cannot_be_read(&[], &locked),
+        (Ok(_), Some(nobody)) => cannot_be_read(&nobody, &locked),
+        (Ok(_), None) => println!("not tested: a file without permission, since this user may read it all the same"),
     }
+}
+
+#[test]
+fn a_file_is_replaced_only_by_those_who_may_write_it() {
+    let folder = folder("who-may-write");
+    let [input, out] = ["in.sao", "out.yuv"].map(|name| file(&folder, name, &tiny()));
+    fs::set_permissions(&folder, fs::Permissions::from_mode(0o777)).expect("a folder for everyone");
+    fs::set_permissions(&out, fs::Permissions::from_mode(0o444)).expect("a file to read");
+    let may = File::options().write(true).open(&out).is_ok();
+    let Some(command) = (if may { as_nobody(&input) } else { Some(vec![]) }) else {
+        println!("not tested: a file that this user may not write, since it may write every file");
+        return;
+    };
+    let all = [&command[..], &[COMMAND, "filter"]].concat();
+    let (status, lines, error) = ran(Command::new(all[0]).args(&all[1..]).arg(&input).arg("-o").arg(&out));
+    let sentence = format!("steamgusset: {}: the file cannot be written: ", out.display());
+    assert!(status == Some(1) && lines.is_empty() && error.starts_with(&sentence), "{error}");
+    assert!(fs::read(&out).expect("the old file") == tiny());
+    assert_eq!(fs::read_dir(&folder).expect("the folder").count(), 2);
 }
 
 #[test]

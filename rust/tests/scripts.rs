@@ -1,30 +1,32 @@
-//! The scripts that README names, given words that they do not take: a line says what they take, before anything is built.
+//! The scripts that README names: words that they do not take, which they refuse before anything is built, and an archive
+//! from elsewhere, which they pass over.
 
 mod folders;
+mod shell;
 
+use shell::{Ran, ran};
 use std::fs;
 use std::os::unix::fs::PermissionsExt;
-use std::path::Path;
+use std::path::{Path, PathBuf};
 use std::process::{Command, Stdio};
+
+/// A program of one line.
+fn tool(path: &Path, line: &str) {
+    fs::write(path, format!("#!/bin/sh\n{line}\n")).expect("a tool");
+    fs::set_permissions(path, fs::Permissions::from_mode(0o755)).expect("a tool that is run");
+}
 
 /// A search path on which nothing can be built: its `rt` and `cargo` fail.
 fn without_tools(name: &str) -> String {
     let folder = folders::empty(name);
-    for tool in ["rt", "cargo"] {
-        let path = folder.join(tool);
-        fs::write(&path, "#!/bin/sh\nexit 1\n").expect("a tool that fails");
-        fs::set_permissions(&path, fs::Permissions::from_mode(0o755)).expect("a tool that is run");
-    }
+    ["rt", "cargo"].iter().for_each(|name| tool(&folder.join(name), "exit 1"));
     format!("{}:{}", folder.display(), std::env::var("PATH").expect("a search path"))
 }
 
-/// Exit status, standard output, error stream.
-fn script(name: &str, words: &[&str], path: &str) -> (Option<i32>, String, String) {
+/// What a script of the project says.
+fn script(name: &str, words: &[&str], path: &str) -> Ran {
     let script = Path::new(env!("CARGO_MANIFEST_DIR")).join("..").join(name);
-    let ran = Command::new(script).args(words).env("PATH", path).stdin(Stdio::null()).output();
-    let ran = ran.expect("the script runs");
-    let text = |bytes: Vec<u8>| String::from_utf8(bytes).expect("text");
-    (ran.status.code(), text(ran.stdout), text(ran.stderr))
+    ran(Command::new(script).args(words).env("PATH", path).stdin(Stdio::null()))
 }
 
 #[test]
@@ -46,6 +48,28 @@ fn words_that_a_script_does_not_take_are_refused_at_once() {
         let (status, lines, error) = script(name, words, &path);
         assert_eq!((status, lines.as_str(), error.lines().count()), (Some(2), "", 1), "{name} {words:?}: {error}");
         assert!(error.contains("usage: ") && error.contains(name), "{error}");
+    }
+}
+
+/// A project with this script in it, and tools that prove nothing: cargo notes which archive it is to link.
+fn stand_in(name: &str) -> (PathBuf, String) {
+    let folder = folders::empty(&format!("scripts-{name}"));
+    fs::copy(Path::new(env!("CARGO_MANIFEST_DIR")).join("..").join(name), folder.join(name)).expect("the script");
+    fs::create_dir(folder.join("tools")).expect("a folder for the tools");
+    tool(&folder.join("tools/archive"), "exit 0");
+    tool(&folder.join("tools/rt"), "echo '1 passed, 0 failed'");
+    tool(&folder.join("tools/cargo"), "echo \"archive: ${STEAMGUSSET_ARCHIVE_DIR-proved here}\" >&2");
+    let path = format!("{}:{}", folder.join("tools").display(), std::env::var("PATH").expect("a search path"));
+    (folder.join(name), path)
+}
+
+#[test]
+fn what_is_shown_and_tested_is_what_is_proved_here() {
+    for (name, times) in [("run", 1), ("test", 3)] {
+        let (script, path) = stand_in(name);
+        let (_, _, said) = ran(Command::new(script).env("PATH", path).env("STEAMGUSSET_ARCHIVE_DIR", "/elsewhere"));
+        let archives: Vec<&str> = said.lines().filter(|line| line.starts_with("archive: ")).collect();
+        assert_eq!(archives, vec!["archive: proved here"; times], "{name}: {said}");
     }
 }
 

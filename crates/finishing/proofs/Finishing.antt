@@ -24,10 +24,10 @@ use Rattle.standard.proofs.Parts.{clear-both, first-back}
 use Rattle.standard.proofs.Rasters.{down, column-lt, row-lt, place-of}
 use Rattle.standard.proofs.Three.{plane-long}
 use Rattle.standard.proofs.Granted.{MayCount}
+use Rattle.standard.proofs.Finished.{rows-unique}
 use Rattle.geometry.proofs.Marks.{mark-from, marks-le}
 use Rattle.marks.specs.Marks.{Outside, SomeOutside, LeadingInside}
 use Rattle.marks.proofs.Marks.{above-two, not-two, is-two, in-next, not-next, leading-few}
-use Rattle.finishing.proofs.Rows.{one-number}
 
 -- ---- the verdict in two parts
 
@@ -108,7 +108,7 @@ module _ (s : State) (i : ℕ) (filtered : Planes) (marks : List ℕ) where
   pub part : {n : ℕ} {l : List ℕ} → Clear (rowsReasons s i filtered marks) → FinishedRows s i marks n
       → l ≡ leading s i n (planeOf filtered i) → PartEnsures s i filtered marks l
   part c f e = record {
-    finished = λ d m g. e ∙ ap (λ (a : ℕ). leading s i a (planeOf filtered i)) (one-number f g);
+    finished = λ d m g. e ∙ ap (λ (a : ℕ). leading s i a (planeOf filtered i)) (rows-unique f g);
     refused = λ m r. absurd (first-not-clear (rowsReasons s i filtered marks) m r c);
   }
 

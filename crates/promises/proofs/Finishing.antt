@@ -1,12 +1,12 @@
--- Finished rows: the number that the executable stage counts is one, and there is no other.
-use mathlib.Core.Path.{_≡_, refl, sym, ap, _∙_}
+-- Finished rows: the number that the executable stage counts is one.
+use mathlib.Core.Path.{_≡_, refl}
 use mathlib.Core.List.{List}
 use mathlib.Core.Logic.{_⊎_, inl, inr, ⊎-elim, Dec·not}
-use Prim.Native.Nat.{ℕ, zero, suc, _+_, _*_, _≤_, _<_, min}
+use Prim.Native.Nat.{ℕ, zero, suc, _+_, _*_, _≤_, _<_}
 use native.Mathlib.Decide.{ℕ-discrete}
 use native.Mathlib.Omega.{arith}
 use Rattle.standard.specs.declared.State.{State}
-use Rattle.standard.specs.Picture.{planeHeight, ctbHeight, columns, rows}
+use Rattle.standard.specs.Picture.{columns, rows}
 use Rattle.standard.specs.Reasons.{markOf}
 use Rattle.standard.specs.Calls.{FinishedRows}
 use Rattle.standard.proofs.Decisions.{some?}
@@ -47,16 +47,3 @@ rows-finished s i marks =
       ends = ⊎-elim (λ e. inl (omega arith)) (λ t. inr (omega (arith, t .0), t .1)) (l .ends);
       number = refl;
     }
-
-pub rows-unique : {s : State} {i : ℕ} {marks : List ℕ} {m n : ℕ} → FinishedRows s i marks m → FinishedRows s i marks n → m ≡ n
-rows-unique {s} {i} {marks} f g =
-    f .number ∙ ap (λ (r : ℕ). min (r * ctbHeight (s .picture) i) (planeHeight (s .picture) i)) same ∙ sym (g .number)
-  where
-    not-less : {m n : ℕ} (f : FinishedRows s i marks m) (g : FinishedRows s i marks n) → ¬ (f .row < g .row)
-    not-less f g l =
-        ⊎-elim (λ e. ⊎-elim (λ e′. omega arith) (λ t. omega (arith, t .0)) (g .ends))
-        (λ t. t .1 .2 (g .whole (f .row) (t .1 .0) l (t .1 .1)))
-        (f .ends)
-
-    same : f .row ≡ g .row
-    same = let a : ¬ (f .row < g .row) = not-less f g in let b : ¬ (g .row < f .row) = not-less g f in omega arith

@@ -23,9 +23,10 @@ use Rattle.standard.specs.Contracts.{Judged, OpenEnsures, DeliverEnsures, Filte
 use Rattle.standard.proofs.Decisions.{differ, Verdict, refusal, clear}
 use Rattle.standard.proofs.Numbers.{numberOf-injective, first-unique, first-not-clear}
 use Rattle.standard.proofs.Refusing.{rowsVerdict}
+use Rattle.standard.proofs.Finished.{rows-unique}
 use Rattle.promises.specs.World.{World, Answer, refused, Result}
 use Rattle.promises.specs.Ties.{answered, setAnswered, binsAnswered, afterOpen, afterDeliver, afterFilter, afterRead, afterWrite}
-use Rattle.promises.proofs.Finishing.{rows-finished, rows-unique}
+use Rattle.promises.proofs.Finishing.{rows-finished}
 use Rattle.promises.proofs.Unique.{unique}
 use Rattle.promises.proofs.Tied.{open-meets, deliver-meets, filter-meets, read-meets, write-meets}
 

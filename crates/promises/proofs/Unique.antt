@@ -15,11 +15,11 @@ use Rattle.standard.proofs.Decisions.{Verdict, refusal, clear}
 use Rattle.standard.proofs.Granted.{may-deliver, may-filter}
 use Rattle.standard.proofs.Reader.{one-meaning}
 use Rattle.standard.proofs.ShortestOne.{shortest-unique}
+use Rattle.standard.proofs.Finished.{rows-unique}
 use Rattle.promises.specs.World.{World, Call, Open, Read, Write, Deliver, Filter, Rows, done, set-read, bins-written, rows, Result, Stage, reasonsOf}
 use Rattle.promises.specs.Contract.{appended, withDelivered, withFiltered, Effect, Contract}
 use Rattle.promises.specs.Ours.{verdictOf, ours}
 use Rattle.promises.proofs.Painting.{block-unique}
-use Rattle.promises.proofs.Finishing.{rows-unique}
 use Rattle.promises.proofs.Meets.{meets}
 
 pub wrote-unique : {s : State} {q : CtuSet} {out table : List ℕ} {m n : ℕ} {a b : List ℕ} → Wrote s q out table m a → Wrote s q out table n b → (m ≡ n) × (a ≡ b)

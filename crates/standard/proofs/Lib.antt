@@ -31,6 +31,7 @@ pub mod ShortestOne
 pub mod Refusing
 pub mod Clearing
 pub mod Granted
+pub mod Finished
 pub mod Onward
 pub mod Computing
 pub mod Cases

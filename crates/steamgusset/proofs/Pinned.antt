@@ -14,8 +14,8 @@ use Rattle.standard.proofs.Numbers.{first-unique, first-not-clear}
 use Rattle.standard.proofs.Reader.{one-meaning}
 use Rattle.sets.proofs.Once.{stands-once}
 use Rattle.standard.proofs.Granted.{may-deliver, may-filter}
+use Rattle.standard.proofs.Finished.{rows-unique}
 use Rattle.promises.proofs.Painting.{block-unique}
-use Rattle.promises.proofs.Finishing.{rows-unique}
 use Rattle.promises.proofs.Unique.{wrote-unique}
 use Rattle.steamgusset.specs.Boundary.{version, numbersOf, stateOf}
 use Rattle.steamgusset.specs.Exports.{NoStateHoldsThem, Answers, ReadInto, RowsInto, OpenCrosses, ReadCrosses, WriteCrosses, DeliverCrosses, FilterCrosses, RowsCrosses, SizesCross, BlockCrosses}

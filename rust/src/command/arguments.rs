@@ -3,7 +3,7 @@
 //! `--name VALUE` and `--name=VALUE` are the same; after `--` every word is plain. A word that nothing takes is a
 //! mistake, and so is an option's name where another's value should be: `=` hands over even that.
 
-use super::{Mistake, on_one_line};
+use super::{Mistake, shown};
 use std::ffi::{OsStr, OsString};
 use std::os::unix::ffi::OsStrExt;
 use std::str::FromStr;
@@ -33,7 +33,7 @@ pub fn asks_for_help(words: &[OsString]) -> bool {
 
 /// A word that nothing takes.
 pub fn too_many(takes: &str, word: &OsStr) -> Mistake {
-    Mistake::CommandLine(format!("{takes}, and {} is a word too many", on_one_line(&word.to_string_lossy())))
+    Mistake::CommandLine(format!("{takes}, and {} is a word too many", shown(word)))
 }
 
 impl Arguments {
@@ -132,6 +132,6 @@ fn is_value(word: &OsStr, known: &[Known]) -> bool {
 
 fn known_as(name: &OsStr, known: &[Known]) -> Result<&'static str, Mistake> {
     let option = known.iter().find(|option| name == option.long || option.short.is_some_and(|short| name == short));
-    let option = option.ok_or_else(|| Mistake::CommandLine(format!("there is no option {}", name.display())))?;
+    let option = option.ok_or_else(|| Mistake::CommandLine(format!("there is no option {}", shown(name))))?;
     Ok(option.long)
 }

@@ -1,6 +1,6 @@
 //! Where a picture comes from: a file, or the standard input in the place of one.
 
-use super::on_one_line;
+use super::shown;
 use std::ffi::OsStr;
 use std::fmt::{self, Display, Formatter};
 use std::fs::File;
@@ -41,7 +41,7 @@ impl Display for Input {
     fn fmt(&self, to: &mut Formatter) -> fmt::Result {
         match self {
             Input::StandardInput => to.write_str("standard input"),
-            Input::File(path) => to.write_str(&on_one_line(&path.to_string_lossy())),
+            Input::File(path) => to.write_str(&shown(path.as_os_str())),
         }
     }
 }

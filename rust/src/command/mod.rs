@@ -20,7 +20,7 @@ mod standard_output;
 mod vector;
 
 pub use standard_output::standard_output;
-use std::ffi::OsString;
+use std::ffi::{OsStr, OsString};
 use std::io::{self, Write};
 
 /// How a command ends that did what it was asked.
@@ -153,7 +153,7 @@ fn version(words: &[OsString], out: &mut dyn Write) -> Ended {
 }
 
 fn no_such(name: &OsString) -> Mistake {
-    Mistake::CommandLine(format!("there is no command {}", on_one_line(&name.to_string_lossy())))
+    Mistake::CommandLine(format!("there is no command {}", shown(name)))
 }
 
 /// A mistake on the command line, with the words that print what helps.
@@ -178,10 +178,15 @@ pub fn say(sentence: &str) {
     let _ = writeln!(io::stderr(), "steamgusset: {}", on_one_line(sentence));
 }
 
-/// A name, or a sentence with what was typed in it, as it is printed: a line stays a line, and a terminal is told nothing.
+/// A text with what was typed in it, as it is printed: a line stays a line, and a terminal is told nothing.
 fn on_one_line(text: &str) -> String {
     let shown = |letter: char| if letter.is_control() { letter.escape_default().to_string() } else { letter.into() };
-    if text.is_empty() { "''".into() } else { text.chars().map(shown).collect() }
+    text.chars().map(shown).collect()
+}
+
+/// A name, or another word that was typed, as it is printed.
+fn shown(word: &OsStr) -> String {
+    if word.is_empty() { "''".into() } else { on_one_line(&word.to_string_lossy()) }
 }
 
 #[cfg(test)]

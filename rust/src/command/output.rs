@@ -5,7 +5,7 @@
 //! permissions. A target that is no regular file, such as a pipe, is written as it is.
 
 use super::input::Input;
-use super::{Mistake, on_one_line};
+use super::{Mistake, shown};
 use std::ffi::OsStr;
 use std::fmt::{self, Display, Formatter};
 use std::fs::{self, File};
@@ -30,7 +30,7 @@ impl Display for Target {
     fn fmt(&self, to: &mut Formatter) -> fmt::Result {
         match self {
             Target::StandardOutput => to.write_str("standard output"),
-            Target::File(path) => to.write_str(&on_one_line(&path.to_string_lossy())),
+            Target::File(path) => to.write_str(&shown(path.as_os_str())),
         }
     }
 }

@@ -141,7 +141,7 @@ impl Rest {
     }
 
     /// Judges whether there is memory for the picture, before it is read: the planes of the file, those of the stage and
-    /// the finished rows are two and a half times the file.
+    /// the finished rows are two and a half times the file. Images to look at take more.
     fn has_room(&self) -> io::Result<()> {
         let mut room = Vec::<u8>::new();
         room.try_reserve_exact(3 * self.all)?;

@@ -511,7 +511,7 @@ static sg_state described(void)
     d.width = 200;
     d.height = 120;
     d.ctb = 64;
-    d.format = 1;
+    d.format = SG_FORMAT_420;
     d.depth = 10;
     d.luma = 1;
     d.chroma = 1;

@@ -10,12 +10,10 @@
  * - several slices; one slice may have any number of segments
  * - tiles
  * - lossless units, and PCM units whose loop filtering is disabled: they keep their samples
- * - 4:2:2 and 4:4:4
  * - luma and chroma of different depths
  * - above 10 bits, offsets sent with a scale (log2_sao_offset_scale) other than depth minus 10
  *
- * 4:2:2 and 4:4:4 are refused by their format. The others no call can see: such a picture is accepted and comes out
- * wrong.
+ * No call can see them: such a picture is accepted and comes out wrong.
  *
  * BUILDING
  *
@@ -33,7 +31,7 @@
  *     state.width = 200;
  *     state.height = 120;
  *     state.ctb = 64;
- *     state.format = 1;
+ *     state.format = SG_FORMAT_420;
  *     state.depth = 10;
  *     state.luma = 1;
  *     state.chroma = 1;
@@ -114,7 +112,7 @@ extern "C" {
 /* The version of this header. The major number grows when what crosses changes so that a caller compiled before would
  * be wrong, the minor number when something is added. */
 #define SG_VERSION_MAJOR 4
-#define SG_VERSION_MINOR 0
+#define SG_VERSION_MINOR 1
 #define SG_VERSION (SG_VERSION_MAJOR * 65536 + SG_VERSION_MINOR)
 
 /* The version of the archive, put together as SG_VERSION is. Header and archive fit if their major numbers are equal
@@ -171,6 +169,16 @@ static inline const char *sg_reason(uint32_t answer)
 
 /* ---- what crosses */
 
+/* The chroma formats, by H.265's names and numbers (Table 6-1): what the planes of Cb and Cr, and their CTBs, are beside
+ * luma's. Where separate_colour_plane_flag is 1, H.265 codes each colour plane as a monochrome picture, and so does the
+ * caller describe it: three pictures of format 0. */
+enum sg_format {
+    SG_FORMAT_MONOCHROME = 0, /* there are none */
+    SG_FORMAT_420 = 1,        /* half the width and half the height */
+    SG_FORMAT_422 = 2,        /* half the width and the full height */
+    SG_FORMAT_444 = 3         /* the same */
+};
+
 /* The description of a picture, and how far its sets are in. The caller fills in the description by its fields' names;
  * open, read and write keep next, which stands last. Numbers outside the ranges given here break a rule:
  * SG_DESCRIPTION, before every other reason. */
@@ -178,7 +186,7 @@ typedef struct sg_state {
     uint32_t width;  /* in luma samples: a multiple of 8, from 8 to 8192 */
     uint32_t height; /* likewise */
     uint32_t ctb;    /* CTB size in luma samples: 16, 32 or 64 */
-    uint32_t format; /* chroma_format_idc: 0 monochrome, 1 is 4:2:0, with chroma of half width and half height */
+    uint32_t format; /* chroma_format_idc, 0 to 3: enum sg_format */
     uint32_t depth;  /* bit depth of all components: 8 to 16 */
     uint32_t luma;   /* slice_sao_luma_flag: 0 or 1 */
     uint32_t chroma; /* slice_sao_chroma_flag: 0 or 1; 0 in monochrome */

@@ -7,7 +7,7 @@ use crate::timing::{Laps, Patience, each, lap, shortest};
 use crate::{Done, Mistake};
 use std::hint::black_box;
 use std::io::Write;
-use steamgusset::{BINS_BYTES, CtuSet, Offsets, Picture, Refusal, State, calls};
+use steamgusset::{BINS_BYTES, ChromaFormat, CtuSet, Offsets, Picture, Refusal, State, calls};
 
 /// Calls made in a row where one is too short to be timed.
 const CALLS: usize = 2000;
@@ -20,7 +20,7 @@ pub fn all(patience: Patience, out: &mut dyn Write) -> Done {
 }
 
 fn picture(width: u32, height: u32, ctb: u32) -> Picture {
-    Picture { width, height, ctb, format: 1, depth: 10, luma: true, chroma: true }
+    Picture { width, height, ctb, format: ChromaFormat::Chroma420, depth: 10, luma: true, chroma: true }
 }
 
 // ---- by the sample

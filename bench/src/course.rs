@@ -158,7 +158,8 @@ impl Course {
     pub fn deliver_plain(&mut self) -> Result<Laps, Refusal> {
         laps(&self.parts, |part| {
             let (samples, plane) = (&self.packed[part.packed.clone()], &mut self.deblocked[part.component]);
-            let taken = plain_c::deliver(layout(&self.state, part.component), samples, part.block, plane);
+            let taken =
+                plain_c::deliver(layout(&self.sizes, self.state.depth, part.component), samples, part.block, plane);
             if taken { Ok(()) } else { Err(Refusal::SampleTooLarge) }
         })
     }
@@ -211,7 +212,7 @@ impl Course {
         laps(&self.parts, |part| {
             let set = component(&self.sets[part.ctb as usize], part.component);
             let (plane, out) = (&self.deblocked[part.component], &mut self.filtered[part.component]);
-            block(layout(&self.state, part.component), set, part.block, plane, out);
+            block(layout(&self.sizes, self.state.depth, part.component), set, part.block, plane, out);
             Ok(())
         })
     }
@@ -266,7 +267,7 @@ impl Course {
     pub fn scan(&mut self) -> Result<Scan, Mistake> {
         self.marks.fill(1);
         let parts: Vec<Part> = self.parts.iter().filter(|part| self.is_apart(part.ctb as usize)).cloned().collect();
-        let seen = |part: &Part| grown(layout(&self.state, part.component), part.block);
+        let seen = |part: &Part| grown(layout(&self.sizes, self.state.depth, part.component), part.block);
         let samples = parts.iter().map(|part| seen(part).samples()).sum();
         let last = |part: &Part| (seen(part).y1 - 1) * self.sizes.width[part.component] + seen(part).x1 - 1;
         let places: Vec<(usize, usize)> = parts.iter().map(|part| (part.component, last(part))).collect();
@@ -339,9 +340,8 @@ fn grown(layout: Layout, block: Block) -> Block {
     }
 }
 
-fn layout(state: &State, component: usize) -> Layout {
-    let divisor = if component == 0 { 1 } else { 2 };
-    Layout { width: state.width as usize / divisor, height: state.height as usize / divisor, depth: state.depth }
+fn layout(sizes: &Sizes, depth: u32, component: usize) -> Layout {
+    Layout { width: sizes.width[component], height: sizes.height[component], depth }
 }
 
 fn component(set: &CtuSet, number: usize) -> Offsets {
@@ -364,14 +364,21 @@ fn random(count: usize, depth: u8) -> Vec<u16> {
 mod tests {
     use super::*;
     use crate::filter::mixed;
+    use steamgusset::ChromaFormat;
 
     /// Pictures of several blocks, the last ones cut short.
     fn courses() -> impl Iterator<Item = Course> {
         let sizes = [(8, 8), (72, 40), (200, 136)];
         let pictures = [16, 32, 64].into_iter().flat_map(move |ctb| sizes.map(|size| (ctb, size)));
-        pictures.flat_map(|(ctb, (width, height))| {
-            [8, 10, 15].map(|depth| {
-                let picture = Picture { width, height, ctb, format: 1, depth, luma: true, chroma: true };
+        let kinds = [
+            (8, ChromaFormat::Chroma420),
+            (10, ChromaFormat::Chroma420),
+            (10, ChromaFormat::Chroma422),
+            (15, ChromaFormat::Chroma444),
+        ];
+        pictures.flat_map(move |(ctb, (width, height))| {
+            kinds.map(|(depth, format)| {
+                let picture = Picture { width, height, ctb, format, depth, luma: true, chroma: true };
                 Course::new(picture, mixed).unwrap_or_else(|refusal| panic!("{picture:?} was {refusal}"))
             })
         })

@@ -6,7 +6,7 @@ use crate::timing::{Best, Patience, each, race};
 use crate::{Done, Mistake};
 use std::io::Write;
 use std::ops::Range;
-use steamgusset::{CtuSet, Offsets, Picture};
+use steamgusset::{ChromaFormat, CtuSet, Offsets, Picture};
 
 /// One set for a whole picture, and how many times memcpy's time the filter call may take with it.
 struct Kind {
@@ -33,12 +33,13 @@ static KINDS: [Kind; 6] = [
     edge("edge 3", 3),
 ];
 
-/// Full HD, of luma alone or in 4:2:0.
-fn picture(ctb: u32, depth: u8, chroma: bool) -> Picture {
-    Picture { width: 1920, height: 1080, ctb, format: chroma.into(), depth, luma: true, chroma }
+/// Full HD; chroma is filtered where there is any.
+fn picture(ctb: u32, depth: u8, format: ChromaFormat) -> Picture {
+    let chroma = format != ChromaFormat::Monochrome;
+    Picture { width: 1920, height: 1080, ctb, format, depth, luma: true, chroma }
 }
 
-/// The set of a 4:2:0 picture's CTU if every kind takes its turn. No CTU has the set of its left or upper neighbour.
+/// The set of a CTU with chroma if every kind takes its turn. No CTU has the set of its left or upper neighbour.
 pub fn mixed(column: usize, row: usize) -> CtuSet {
     everywhere(true, KINDS[(column + 2 * row) % KINDS.len()].offsets)
 }
@@ -51,22 +52,46 @@ pub const fn everywhere(chroma: bool, luma: Offsets) -> CtuSet {
 /// Every depth, for luma alone and for a whole picture, and how the figures stand against the targets.
 pub fn depths(patience: Patience, out: &mut dyn Write) -> Done {
     writeln!(out, "Nanoseconds a sample. {EXPLAINED}{}\n", targets_are_for())?;
-    for (name, chroma) in [("Luma alone (monochrome)", false), ("A whole picture (4:2:0)", true)] {
-        let mut table = Table::new(["bits"].into_iter().chain(HEADING).chain(TARGETS));
-        for line in measured(patience, [8, 10, 16].map(|depth| (picture(64, depth, chroma), 0)))? {
-            let (figures, depth) = (line.figures(), line.picture.depth.to_string());
-            table.row([depth].into_iter().chain(figures.cells(line.kind)).chain(figures.judged(line.kind)));
-        }
+    for (name, format) in
+        [("Luma alone (monochrome)", ChromaFormat::Monochrome), ("A whole picture (4:2:0)", ChromaFormat::Chroma420)]
+    {
+        let pictures = [8, 10, 16].map(|depth| picture(64, depth, format));
+        let table = judged("bits", patience, pictures, |picture| picture.depth.to_string())?;
         writeln!(out, "### {name}\n\n{table}")?;
     }
     Ok(())
+}
+
+/// A whole picture in every format that has chroma.
+pub fn formats(patience: Patience, out: &mut dyn Write) -> Done {
+    writeln!(out, "Nanoseconds a sample of all three planes, at 10 bits. {EXPLAINED}{}\n", targets_are_for())?;
+    let formats = [ChromaFormat::Chroma420, ChromaFormat::Chroma422, ChromaFormat::Chroma444];
+    let pictures = formats.map(|format| picture(64, 10, format));
+    let table = judged("format", patience, pictures, |picture| picture.format.to_string())?;
+    writeln!(out, "{table}")?;
+    Ok(())
+}
+
+/// The lines of each picture, under what names it, and how they stand against the targets.
+fn judged<const N: usize>(
+    heading: &'static str,
+    patience: Patience,
+    pictures: [Picture; N],
+    name: impl Fn(&Picture) -> String,
+) -> Result<Table, Mistake> {
+    let mut table = Table::new([heading].into_iter().chain(HEADING).chain(TARGETS));
+    for line in measured(patience, pictures.map(|picture| (picture, 0)))? {
+        let figures = line.figures();
+        table.row([name(&line.picture)].into_iter().chain(figures.cells(line.kind)).chain(figures.judged(line.kind)));
+    }
+    Ok(table)
 }
 
 /// Every CTB size.
 pub fn sizes(patience: Patience, out: &mut dyn Write) -> Done {
     writeln!(out, "Nanoseconds a sample, luma alone (monochrome). {EXPLAINED}\n")?;
     let mut table = Table::new(["block"].into_iter().chain(HEADING));
-    for line in measured(patience, [64, 32, 16].map(|ctb| (picture(ctb, 10, false), 0)))? {
+    for line in measured(patience, [64, 32, 16].map(|ctb| (picture(ctb, 10, ChromaFormat::Monochrome), 0)))? {
         let ctb = line.picture.ctb;
         table.row([format!("{ctb}x{ctb}")].into_iter().chain(line.figures().cells(line.kind)));
     }
@@ -78,7 +103,8 @@ pub fn sizes(patience: Patience, out: &mut dyn Write) -> Done {
 pub fn unaligned(patience: Patience, out: &mut dyn Write) -> Done {
     writeln!(out, "Nanoseconds a sample. Planes begin 16 bytes after the start of a line, as malloc leaves them.\n")?;
     let mut table = Table::new(["picture"].into_iter().chain(HEADING));
-    for line in measured(patience, [false, true].map(|chroma| (picture(64, 10, chroma), 16)))? {
+    let formats = [ChromaFormat::Monochrome, ChromaFormat::Chroma420];
+    for line in measured(patience, formats.map(|format| (picture(64, 10, format), 16)))? {
         let name = if line.picture.chroma { "4:2:0" } else { "luma" };
         table.row([name.to_string()].into_iter().chain(line.figures().cells(line.kind)));
     }

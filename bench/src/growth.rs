@@ -8,7 +8,7 @@ use crate::{Done, Mistake};
 use std::io::Write;
 use std::iter::zip;
 use std::time::Duration;
-use steamgusset::{Picture, Refusal};
+use steamgusset::{ChromaFormat, Picture, Refusal};
 
 const SIZES: [(u32, u32); 6] = [(416, 240), (832, 480), (1280, 720), (1920, 1080), (3840, 2160), (8192, 4320)];
 
@@ -57,7 +57,8 @@ pub fn all(patience: Patience, out: &mut dyn Write) -> Done {
 }
 
 fn courses() -> Result<Vec<Course>, Mistake> {
-    let picture = |(width, height)| Picture { width, height, ctb: 64, format: 1, depth: 10, luma: true, chroma: true };
+    let format = ChromaFormat::Chroma420;
+    let picture = |(width, height)| Picture { width, height, ctb: 64, format, depth: 10, luma: true, chroma: true };
     SIZES.map(picture).into_iter().map(|picture| Ok(Course::new(picture, mixed)?)).collect()
 }
 

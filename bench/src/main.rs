@@ -1,4 +1,4 @@
-//! The benchmark's command: `bench/run [--quick] [filter] [sizes] [unaligned] [calls] [growth]`.
+//! The benchmark's command: `bench/run [--quick] [filter] [formats] [sizes] [unaligned] [calls] [growth]`.
 //!
 //! Without a name every part is run. A mistake is one sentence on the error stream; the exit status is 2 for the command
 //! line and 1 for a part that went wrong.
@@ -43,8 +43,9 @@ struct Part {
     run: fn(Patience, &mut dyn Write) -> Done,
 }
 
-const PARTS: [Part; 5] = [
+const PARTS: [Part; 6] = [
     Part { name: "filter", heading: "The filter call, 1920x1080 in 64x64 blocks", run: filter::depths },
+    Part { name: "formats", heading: "The filter call by format, 1920x1080 in 64x64 blocks", run: filter::formats },
     Part { name: "sizes", heading: "The filter call by block size, 1920x1080 at 10 bits", run: filter::sizes },
     Part {
         name: "unaligned",

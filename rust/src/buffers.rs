@@ -144,9 +144,10 @@ impl Buffers {
     /// Lends them, for [`Stage::open_lent`](crate::Stage::open_lent) to one who keeps them.
     ///
     /// ```
-    /// use steamgusset::{Buffers, Picture, Refusal, Stage};
+    /// use steamgusset::{Buffers, ChromaFormat, Picture, Refusal, Stage};
     ///
-    /// let picture = Picture { width: 8, height: 8, ctb: 16, format: 0, depth: 8, luma: true, chroma: false };
+    /// let format = ChromaFormat::Monochrome;
+    /// let picture = Picture { width: 8, height: 8, ctb: 16, format, depth: 8, luma: true, chroma: false };
     /// let mut buffers = Buffers::zeros(&picture.sizes()?);
     /// let mut stage = Stage::open_lent(picture, buffers.lend())?;
     /// stage.deliver(0, 0, &[9; 64])?;

@@ -6,9 +6,10 @@
 //! state and buffers together, for those who do not have to keep them apart.
 //!
 //! ```
-//! use steamgusset::{BINS_BYTES, CtuSet, Picture, Refusal, calls};
+//! use steamgusset::{BINS_BYTES, ChromaFormat, CtuSet, Picture, Refusal, calls};
 //!
-//! let picture = Picture { width: 16, height: 8, ctb: 16, format: 0, depth: 8, luma: true, chroma: false };
+//! let format = ChromaFormat::Monochrome;
+//! let picture = Picture { width: 16, height: 8, ctb: 16, format, depth: 8, luma: true, chroma: false };
 //! let mut state = picture.state();
 //! let sizes = calls::sizes(&state)?;
 //! let (mut deblocked, mut filtered) = (vec![0; sizes.samples[0]], vec![0; sizes.samples[0]]);

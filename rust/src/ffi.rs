@@ -52,7 +52,7 @@ pub struct State {
     pub height: u32,
     /// CTB size in luma samples: 16, 32 or 64.
     pub ctb: u32,
-    /// chroma_format_idc: 0 monochrome, 1 is 4:2:0.
+    /// chroma_format_idc, 0 to 3: the numbers of [`ChromaFormat`](crate::ChromaFormat).
     pub format: u32,
     /// Bit depth, 8 to 16.
     pub depth: u32,

@@ -18,12 +18,10 @@
 //! - several slices; one slice may have any number of segments
 //! - tiles
 //! - lossless units, and PCM units whose loop filtering is disabled: they keep their samples
-//! - 4:2:2 and 4:4:4
 //! - luma and chroma of different depths
 //! - above 10 bits, offsets sent with a scale (log2_sao_offset_scale) other than depth minus 10
 //!
-//! 4:2:2 and 4:4:4 are refused by their format. The others no call can see: such a picture is accepted and comes out
-//! wrong.
+//! No call can see them: such a picture is accepted and comes out wrong.
 //!
 //! The rules are those of [`Picture`].
 //!
@@ -32,10 +30,11 @@
 //! A whole picture of two CTUs, side by side, delivered from right to left:
 //!
 //! ```
-//! use steamgusset::{BINS_BYTES, CtuSet, Offsets, Picture, Refusal, Stage};
+//! use steamgusset::{BINS_BYTES, ChromaFormat, CtuSet, Offsets, Picture, Refusal, Stage};
 //!
 //! fn main() -> Result<(), Refusal> {
-//!     let picture = Picture { width: 32, height: 16, ctb: 16, format: 0, depth: 8, luma: true, chroma: false };
+//!     let format = ChromaFormat::Monochrome;
+//!     let picture = Picture { width: 32, height: 16, ctb: 16, format, depth: 8, luma: true, chroma: false };
 //!     let mut stage = Stage::open(picture)?;
 //!
 //!     // The sets, in order. An encoder writes them; a decoder gives the bins to `read`.
@@ -110,7 +109,7 @@ mod stage;
 pub use buffers::{Buffers, Lent, Memory, Plane, Refused};
 pub use calls::{VERSION, version};
 pub use ffi::{Block, Rows, Sizes, State};
-pub use picture::Picture;
+pub use picture::{ChromaFormat, Picture};
 pub use refusal::Refusal;
 pub use sets::{BINS_BYTES, CtuSet, ENTRY_BYTES, Offsets, SET_BYTES};
 pub use stage::Stage;

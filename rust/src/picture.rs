@@ -3,18 +3,86 @@
 use crate::calls;
 use crate::ffi::{Block, Sizes, State};
 use crate::refusal::Refusal;
+use std::fmt;
+
+/// What the planes of Cb and Cr are beside luma's: H.265's chroma format, with its names and the numbers of
+/// chroma_format_idc (Table 6-1).
+///
+/// ```
+/// use steamgusset::{ChromaFormat, Refusal};
+///
+/// // A decoder has the number from the sequence parameter set.
+/// let format = ChromaFormat::try_from(2)?;
+/// assert_eq!((format, format.to_string()), (ChromaFormat::Chroma422, "4:2:2".into()));
+/// assert_eq!(u32::from(format), 2);
+/// assert_eq!(ChromaFormat::try_from(4), Err(Refusal::Description));
+/// # Ok::<(), Refusal>(())
+/// ```
+///
+/// Where separate_colour_plane_flag is 1, H.265 codes each colour plane as a monochrome picture: three pictures of
+/// format [`ChromaFormat::Monochrome`] here.
+#[derive(Clone, Copy, Debug, PartialEq, Eq, PartialOrd, Ord, Hash)]
+#[repr(u8)]
+pub enum ChromaFormat {
+    /// Monochrome: there is luma alone.
+    Monochrome = 0,
+    /// 4:2:0: half of luma's width and half of its height.
+    Chroma420 = 1,
+    /// 4:2:2: half of luma's width and all of its height.
+    Chroma422 = 2,
+    /// 4:4:4: luma's width and height.
+    Chroma444 = 3,
+}
+
+impl ChromaFormat {
+    /// All of them, each at the place of its number.
+    pub const ALL: [ChromaFormat; 4] =
+        [ChromaFormat::Monochrome, ChromaFormat::Chroma420, ChromaFormat::Chroma422, ChromaFormat::Chroma444];
+}
+
+impl From<ChromaFormat> for u32 {
+    /// chroma_format_idc.
+    fn from(format: ChromaFormat) -> u32 {
+        format as u32
+    }
+}
+
+impl TryFrom<u32> for ChromaFormat {
+    type Error = Refusal;
+
+    /// The format with this chroma_format_idc. Another number breaks the description's rule of the format.
+    fn try_from(idc: u32) -> Result<ChromaFormat, Refusal> {
+        ChromaFormat::ALL.into_iter().find(|format| u32::from(*format) == idc).ok_or(Refusal::Description)
+    }
+}
+
+impl fmt::Display for ChromaFormat {
+    /// H.265's name.
+    fn fmt(&self, out: &mut fmt::Formatter<'_>) -> fmt::Result {
+        out.pad(match self {
+            ChromaFormat::Monochrome => "monochrome",
+            ChromaFormat::Chroma420 => "4:2:0",
+            ChromaFormat::Chroma422 => "4:2:2",
+            ChromaFormat::Chroma444 => "4:4:4",
+        })
+    }
+}
 
 /// The description. One that breaks a rule can be made, and is refused.
 ///
-/// The rules: width and height are multiples of 8 from 8 to 8192; CTB size 16, 32 or 64; format 0 or 1; depth 8 to 16;
-/// no chroma switch in monochrome.
+/// The rules: width and height are multiples of 8 from 8 to 8192; CTB size 16, 32 or 64; depth 8 to 16; no chroma switch
+/// in monochrome.
 ///
 /// ```
-/// use steamgusset::{Picture, Refusal};
+/// use steamgusset::{ChromaFormat, Picture, Refusal};
 ///
-/// let picture = Picture { width: 40, height: 24, ctb: 16, format: 1, depth: 8, luma: true, chroma: true };
+/// let format = ChromaFormat::Chroma420;
+/// let picture = Picture { width: 40, height: 24, ctb: 16, format, depth: 8, luma: true, chroma: true };
 /// let sizes = picture.sizes()?;
 /// assert_eq!((sizes.columns, sizes.rows, sizes.samples), (3, 2, [960, 240, 240]));
+/// // In 4:2:2 chroma has half the width and the full height.
+/// let wide = Picture { format: ChromaFormat::Chroma422, ..picture };
+/// assert_eq!((wide.sizes()?.width, wide.sizes()?.height), ([40, 20, 20], [24, 24, 24]));
 /// // The last CTB is cut short at the right and below.
 /// assert_eq!(picture.block(0, 5)?.samples(), 8 * 8);
 /// assert_eq!(Picture { ctb: 8, ..picture }.sizes(), Err(Refusal::Description));
@@ -28,8 +96,8 @@ pub struct Picture {
     pub height: u32,
     /// CTB size in luma samples.
     pub ctb: u32,
-    /// chroma_format_idc: 0 monochrome, 1 is 4:2:0.
-    pub format: u8,
+    /// The chroma format.
+    pub format: ChromaFormat,
     /// Bit depth of all components.
     pub depth: u8,
     /// The switch that says whether luma is filtered: slice_sao_luma_flag.
@@ -75,6 +143,9 @@ impl Picture {
     /// How many planes the format has: luma alone, or luma, Cb and Cr.
     #[must_use]
     pub const fn components(&self) -> u32 {
-        if self.format == 0 { 1 } else { 3 }
+        match self.format {
+            ChromaFormat::Monochrome => 1,
+            ChromaFormat::Chroma420 | ChromaFormat::Chroma422 | ChromaFormat::Chroma444 => 3,
+        }
     }
 }

@@ -16,9 +16,10 @@ use std::fmt;
 /// ([`Refusal::Stored`]).
 ///
 /// ```
-/// use steamgusset::{CtuSet, Picture, Refusal, Stage};
+/// use steamgusset::{ChromaFormat, CtuSet, Picture, Refusal, Stage};
 ///
-/// let picture = Picture { width: 8, height: 8, ctb: 16, format: 0, depth: 8, luma: true, chroma: false };
+/// let format = ChromaFormat::Monochrome;
+/// let picture = Picture { width: 8, height: 8, ctb: 16, format, depth: 8, luma: true, chroma: false };
 /// let mut stage = Stage::open(picture)?;
 /// stage.deliver(0, 0, &[9; 64])?;
 /// assert_eq!(stage.filter(0, 0), Err(Refusal::NotReady));
@@ -36,9 +37,10 @@ use std::fmt;
 /// `&self`: while no call changes the picture, several threads may look at it.
 ///
 /// ```
-/// use steamgusset::{CtuSet, Picture, Refusal, Stage};
+/// use steamgusset::{ChromaFormat, CtuSet, Picture, Refusal, Stage};
 ///
-/// let picture = Picture { width: 8, height: 8, ctb: 16, format: 0, depth: 8, luma: true, chroma: false };
+/// let format = ChromaFormat::Monochrome;
+/// let picture = Picture { width: 8, height: 8, ctb: 16, format, depth: 8, luma: true, chroma: false };
 /// let mut stages = [Stage::open(picture)?, Stage::open(picture)?];
 /// std::thread::scope(|scope| {
 ///     for stage in &mut stages {
@@ -75,9 +77,10 @@ impl Stage {
     /// In this order: [`Refusal::Description`]; [`Refusal::Length`] of any buffer. The buffers come back as they were.
     ///
     /// ```
-    /// use steamgusset::{Buffers, CtuSet, Picture, Plane, Refusal, Stage};
+    /// use steamgusset::{Buffers, ChromaFormat, CtuSet, Picture, Plane, Refusal, Stage};
     ///
-    /// let picture = Picture { width: 8, height: 8, ctb: 16, format: 0, depth: 8, luma: true, chroma: false };
+    /// let format = ChromaFormat::Monochrome;
+    /// let picture = Picture { width: 8, height: 8, ctb: 16, format, depth: 8, luma: true, chroma: false };
     /// let mut unused = vec![picture.sizes()?.samples.map(Plane::zeros)];
     /// let mut references = Vec::new();
     ///
@@ -114,9 +117,10 @@ impl<'a> Stage<Lent<'a>> {
     /// In this order: [`Refusal::Description`]; [`Refusal::Length`] of any buffer. What is lent is then as it was.
     ///
     /// ```
-    /// use steamgusset::{CtuSet, ENTRY_BYTES, Lent, Picture, Refusal, Stage};
+    /// use steamgusset::{ChromaFormat, CtuSet, ENTRY_BYTES, Lent, Picture, Refusal, Stage};
     ///
-    /// let picture = Picture { width: 8, height: 8, ctb: 16, format: 0, depth: 8, luma: true, chroma: false };
+    /// let format = ChromaFormat::Monochrome;
+    /// let picture = Picture { width: 8, height: 8, ctb: 16, format, depth: 8, luma: true, chroma: false };
     /// let (mut before, mut after, mut marks, mut table) = ([0; 64], [0; 64], [0; 1], [0; ENTRY_BYTES]);
     /// let lent = Lent {
     ///     deblocked: [&mut before, &mut [], &mut []],
@@ -159,9 +163,10 @@ impl<B: Memory> Stage<B> {
     /// It is never refused: description and lengths were accepted when the stage was opened.
     ///
     /// ```
-    /// use steamgusset::{CtuSet, Picture, Refusal, Stage};
+    /// use steamgusset::{ChromaFormat, CtuSet, Picture, Refusal, Stage};
     ///
-    /// let picture = Picture { width: 8, height: 8, ctb: 16, format: 0, depth: 8, luma: true, chroma: false };
+    /// let format = ChromaFormat::Monochrome;
+    /// let picture = Picture { width: 8, height: 8, ctb: 16, format, depth: 8, luma: true, chroma: false };
     /// let mut stage = Stage::open(picture)?;
     /// stage.write(&CtuSet::OFF, &mut [0])?;
     /// assert_eq!(stage.next_ctu(), 1);
@@ -180,9 +185,10 @@ impl<B: Memory> Stage<B> {
     /// is copied.
     ///
     /// ```
-    /// use steamgusset::{CtuSet, Picture, Refusal, Stage};
+    /// use steamgusset::{ChromaFormat, CtuSet, Picture, Refusal, Stage};
     ///
-    /// let picture = Picture { width: 8, height: 8, ctb: 16, format: 0, depth: 8, luma: true, chroma: false };
+    /// let format = ChromaFormat::Monochrome;
+    /// let picture = Picture { width: 8, height: 8, ctb: 16, format, depth: 8, luma: true, chroma: false };
     /// let mut stage = Stage::open(picture)?;
     /// stage.write(&CtuSet::OFF, &mut [0])?;
     /// stage.deliver(0, 0, &[9; 64])?;
@@ -231,9 +237,10 @@ impl<B: Memory> Stage<B> {
     /// In this order: [`Refusal::AllRead`]; [`Refusal::CountTooLarge`]; [`Refusal::TooEarly`]; [`Refusal::BinsRemain`].
     ///
     /// ```
-    /// use steamgusset::{Offsets, Picture, Refusal, Stage};
+    /// use steamgusset::{ChromaFormat, Offsets, Picture, Refusal, Stage};
     ///
-    /// let picture = Picture { width: 8, height: 8, ctb: 16, format: 0, depth: 8, luma: true, chroma: false };
+    /// let format = ChromaFormat::Monochrome;
+    /// let picture = Picture { width: 8, height: 8, ctb: 16, format, depth: 8, luma: true, chroma: false };
     /// let mut stage = Stage::open(picture)?;
     /// // Edge; magnitudes 1, 0, 0, 2; class 3.
     /// let bins = [0b11_10_0_0_11, 0b0_11_00000];
@@ -255,9 +262,10 @@ impl<B: Memory> Stage<B> {
     /// In this order: [`Refusal::AllRead`]; [`Refusal::NoBins`]; [`Refusal::NoRoom`].
     ///
     /// ```
-    /// use steamgusset::{BINS_BYTES, CtuSet, Offsets, Picture, Refusal, Stage};
+    /// use steamgusset::{BINS_BYTES, ChromaFormat, CtuSet, Offsets, Picture, Refusal, Stage};
     ///
-    /// let picture = Picture { width: 32, height: 8, ctb: 16, format: 0, depth: 8, luma: true, chroma: false };
+    /// let format = ChromaFormat::Monochrome;
+    /// let picture = Picture { width: 32, height: 8, ctb: 16, format, depth: 8, luma: true, chroma: false };
     /// let mut stage = Stage::open(picture)?;
     /// let set = CtuSet { luma: Offsets::Band { position: 9, offsets: [1, 0, 0, 0] }, ..CtuSet::OFF };
     /// let mut bins = [0; BINS_BYTES];
@@ -279,9 +287,10 @@ impl<B: Memory> Stage<B> {
     /// [`Refusal::SampleTooLarge`].
     ///
     /// ```
-    /// use steamgusset::{Picture, Refusal, Stage};
+    /// use steamgusset::{ChromaFormat, Picture, Refusal, Stage};
     ///
-    /// let picture = Picture { width: 24, height: 8, ctb: 16, format: 0, depth: 8, luma: true, chroma: false };
+    /// let format = ChromaFormat::Monochrome;
+    /// let picture = Picture { width: 24, height: 8, ctb: 16, format, depth: 8, luma: true, chroma: false };
     /// let mut stage = Stage::open(picture)?;
     /// let samples = vec![200; stage.block(0, 1)?.samples()];
     /// stage.deliver(0, 1, &samples)?;
@@ -301,9 +310,10 @@ impl<B: Memory> Stage<B> {
     /// In this order: [`Refusal::NoSuchBlock`]; [`Refusal::FilteredBefore`]; [`Refusal::NotReady`].
     ///
     /// ```
-    /// use steamgusset::{CtuSet, Offsets, Picture, Refusal, Stage};
+    /// use steamgusset::{ChromaFormat, CtuSet, Offsets, Picture, Refusal, Stage};
     ///
-    /// let picture = Picture { width: 8, height: 8, ctb: 16, format: 0, depth: 8, luma: true, chroma: false };
+    /// let format = ChromaFormat::Monochrome;
+    /// let picture = Picture { width: 8, height: 8, ctb: 16, format, depth: 8, luma: true, chroma: false };
     /// let mut stage = Stage::open(picture)?;
     /// let set = CtuSet { luma: Offsets::Band { position: 12, offsets: [5, 0, 0, 0] }, ..CtuSet::OFF };
     /// stage.write(&set, &mut [0; 3])?;
@@ -329,9 +339,10 @@ impl<B: Memory> Stage<B> {
     /// [`Refusal::NoSuchBlock`].
     ///
     /// ```
-    /// use steamgusset::{CtuSet, Picture, Refusal, Stage};
+    /// use steamgusset::{ChromaFormat, CtuSet, Picture, Refusal, Stage};
     ///
-    /// let picture = Picture { width: 8, height: 40, ctb: 16, format: 0, depth: 8, luma: true, chroma: false };
+    /// let format = ChromaFormat::Monochrome;
+    /// let picture = Picture { width: 8, height: 40, ctb: 16, format, depth: 8, luma: true, chroma: false };
     /// let mut stage = Stage::open(picture)?;
     /// stage.write(&CtuSet::OFF, &mut [0])?;
     /// stage.deliver(0, 0, &[1; 128])?;

@@ -135,6 +135,7 @@ fn every_call_is_as_the_second_program_says() {
         let rarest = tally.rarest();
         assert!(rarest.is_some_and(|(_, _, times)| times >= OFTEN), "too rare: {rarest:?}");
         assert!(tally.every_picture(), "some class or kind of picture is missing");
+        assert!(tally.equal_shares(), "some format has more pictures than another");
         assert!(tally.long >= OFTEN, "reads of many bins are too rare: {}", tally.long);
     }
 }

@@ -109,7 +109,8 @@ fn with_field(mut bytes: Vec<u8>, place: usize, value: i32) -> Vec<u8> {
 /// The final samples of a file that the stage covers, and how many of them are luma.
 fn final_samples(bytes: &[u8]) -> (Vec<u16>, usize) {
     let luma = field(bytes, 0) as usize * field(bytes, 1) as usize;
-    let samples = if field(bytes, 2) == 0 { luma } else { luma * 3 / 2 };
+    // By ChromaArrayType: luma alone, and with two planes of a quarter, a half, and all of its samples.
+    let samples = [luma, luma * 3 / 2, luma * 2, luma * 3][field(bytes, 24) as usize];
     let planes = &bytes[bytes.len() - 2 * samples..];
     (planes.chunks(2).map(|pair| u16::from_le_bytes([pair[0], pair[1]])).collect(), luma)
 }
@@ -147,11 +148,11 @@ fn edge(class: u8, offsets: [i8; 4]) -> [u8; 8] {
 fn the_bundled_vectors_agree() {
     let (status, lines, error) = check(&[], &vectors());
     assert_eq!((status, error.as_str()), (Some(0), ""));
-    assert_eq!(lines.lines().filter(|line| line.ends_with(": agrees")).count(), 26);
+    assert_eq!(lines.lines().filter(|line| line.ends_with(": agrees")).count(), 46);
     let total = lines.lines().last().expect("a last line");
-    let counts = "26 agree, 0 differ, 0 not covered, 0 damaged, 0 cannot be read; 235680 samples, ";
+    let counts = "46 agree, 0 differ, 0 not covered, 0 damaged, 0 cannot be read; 334176 samples, ";
     assert!(
-        total.starts_with(counts) && total.contains(" of 587 blocks filtered before the last delivery, "),
+        total.starts_with(counts) && total.contains(" of 1031 blocks filtered before the last delivery, "),
         "{total}"
     );
 }
@@ -161,7 +162,7 @@ fn every_seed_agrees() {
     for seed in ["0", "2", "3", "18446744073709551615"] {
         let (status, lines, error) = check(&["--seed", seed], &vectors());
         assert_eq!((status, error.as_str()), (Some(0), ""));
-        assert!(lines.contains("26 agree, 0 differ"), "{lines}");
+        assert!(lines.contains("46 agree, 0 differ"), "{lines}");
     }
 }
 
@@ -174,6 +175,13 @@ fn a_line_says_what_the_picture_is() {
         "{line}"
     );
     assert!(line.contains(" 2716 of 6336 samples changed, ") && line.contains(" ns/sample: agrees"), "{line}");
+    for (start, says) in [
+        ("x_l422_10", "  88x72 4:2:2 depth 10 CTB 16, off/band/edge Y 0/12/18 Cb 0/13/17 Cr 0/13/17, 5753 of 12672 "),
+        ("x_l444_8", "  88x72 4:4:4 depth 8 CTB 16, off/band/edge Y 0/13/17 Cb 1/20/9 Cr 1/20/9, 7172 of 19008 "),
+    ] {
+        let (_, lines, _) = check(&[], &[vector(start)]);
+        assert!(lines.contains(says), "{lines}");
+    }
 }
 
 #[test]

@@ -171,19 +171,10 @@ fn what_is_not_covered_is_said() {
         bytes[last] |= bit;
         bytes
     };
-    // In 4:2:2 a chroma plane has half of luma's samples, in 4:4:4 as many.
-    let longer = |format: i32, samples: usize| {
-        let mut bytes = with(twenty_ctus(), &[(2, format), (24, format)]);
-        bytes.extend(vec![0; 2 * 2 * (samples - 72 * 56 * 3 / 2)]);
-        bytes
-    };
     let pcm = kept(1, &[(23, 1)]);
     agrees("pcm", &pcm);
-    let pictures: [(&str, Vec<u8>, &str); 7] = [
+    let pictures: [(&str, Vec<u8>, &str); 4] = [
         ("tiles", tiles, "it has several tiles"),
-        ("422", longer(2, 72 * 56 * 2), "its format is 4:2:2"),
-        ("444", longer(3, 72 * 56 * 3), "its format is 4:4:4"),
-        ("apart", with(scaled(), &[(2, 3)]), "its format is 4:4:4 with planes coded apart"),
         ("depths", with(twenty_ctus(), &[(4, 9)]), "it has two depths, luma 8 and chroma 9"),
         ("lossless", kept(2, &[(23, 2)]), "it has lossless units, which keep their samples"),
         ("pcm", with(pcm, &[(11, 1)]), "it has PCM units whose loop filtering is disabled"),
@@ -191,6 +182,13 @@ fn what_is_not_covered_is_said() {
     for (name, bytes, why) in pictures {
         is_not_covered(&format!("not-covered-{name}"), &bytes, why);
     }
+}
+
+/// Where separate_colour_plane_flag is 1, H.265 codes a plane of 4:4:4 as a monochrome picture (7.4.3.2), and the file
+/// holds one.
+#[test]
+fn a_plane_coded_apart_is_a_monochrome_picture() {
+    agrees("apart", &with(scaled(), &[(2, 3)]));
 }
 
 // Headers
@@ -365,7 +363,7 @@ fn a_pipe_without_end_is_left() {
     // However much is announced: what is not covered is not read, and what is covered no further than it is sound.
     for (fields, why) in [
         (&[(0, 65528), (1, 65528), (7, 4096), (8, 4096)][..], "its size is 65528x65528, above 8192"),
-        (&[(2, 3), (24, 3)], "its format is 4:4:4"),
+        (&[(14, 2)], "it has several tiles"),
     ] {
         let (status, lines, error) = check_endless(with(header(8192, 8192), fields));
         assert_eq!((status, error.as_str()), (Some(0), ""));
@@ -395,9 +393,6 @@ fn bytes_read(name: &str, bytes: &[u8]) -> (Ran, u64) {
 fn nothing_is_read_after_a_header_that_is_not_covered() {
     for (number, (fields, why)) in [
         (&[(0, 8200), (1, 8), (7, 513), (8, 1)][..], "its size is 8200x8, above 8192"),
-        (&[(2, 2), (24, 2)], "its format is 4:2:2"),
-        (&[(2, 3), (24, 3)], "its format is 4:4:4"),
-        (&[(2, 3), (24, 0)], "its format is 4:4:4 with planes coded apart"),
         (&[(4, 9)], "it has two depths, luma 8 and chroma 9"),
         (
             &[(3, 12), (4, 12), (9, 2)],

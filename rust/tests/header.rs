@@ -4,7 +4,7 @@
 use std::collections::BTreeSet;
 use std::fmt::Debug;
 use std::path::Path;
-use steamgusset::{BINS_BYTES, Block, ENTRY_BYTES, Refusal, Rows, SET_BYTES, Sizes, State, ffi};
+use steamgusset::{BINS_BYTES, Block, ChromaFormat, ENTRY_BYTES, Refusal, Rows, SET_BYTES, Sizes, State, ffi};
 
 /// A text of the project.
 fn text(file: &str) -> String {
@@ -22,11 +22,17 @@ fn between<'a>(text: &'a str, before: &str, after: &str) -> &'a str {
     rest.split_once(after).unwrap_or_else(|| panic!("no {after:?} after {before:?}")).0
 }
 
+/// The names of an enum of the header and their numbers.
+fn named(header: &str, name: &str) -> Vec<(String, u32)> {
+    let lines = between(header, &format!("enum {name} {{"), "}").lines();
+    let pairs = lines.filter_map(|line| line.split_once('='));
+    let number = |text: &str| text.split([',', '/']).next().and_then(|number| number.trim().parse().ok());
+    pairs.map(|(name, text)| (name.trim().into(), number(text).expect("a number"))).collect()
+}
+
 /// The header's names of the refusals and their numbers.
 fn refusals(header: &str) -> Vec<(String, u32)> {
-    let lines = between(header, "enum sg_refusal {", "}").split(',');
-    let pairs = lines.filter_map(|line| line.split_once('='));
-    pairs.map(|(name, number)| (name.trim().into(), number.trim().parse().expect("a number"))).collect()
+    named(header, "sg_refusal")
 }
 
 /// The words that `sg_reason` has for a name.
@@ -64,6 +70,17 @@ fn every_refusal_has_one_number_and_one_reason() {
         documented,
         Refusal::ALL.map(|refusal| vec![refusal.number().to_string(), refusal.reason().to_string()])
     );
+}
+
+/// `Chroma422` as C says it: `SG_FORMAT_422`.
+#[test]
+fn every_format_has_one_number() {
+    let in_c = |format: ChromaFormat| {
+        let name = format!("{format:?}").to_ascii_uppercase();
+        format!("SG_FORMAT_{}", name.strip_prefix("CHROMA").unwrap_or(&name))
+    };
+    let ours = ChromaFormat::ALL.map(|format| (in_c(format), u32::from(format)));
+    assert_eq!(named(&header(), "sg_format"), ours);
 }
 
 /// The reasons of a call in docs/CALLS.md: "1; 2 marks" is 1 and 2.

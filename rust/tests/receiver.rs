@@ -42,29 +42,60 @@ fn the_header_compiles_as_c_and_as_cpp() {
     }
 }
 
-/// The receiver as a program of that name, linked with the archive that this package links.
-fn build(mut compile: Command, name: &str) -> PathBuf {
+/// A receiver's source as a program of that name, linked with the archive that this package links.
+fn build(mut compile: Command, source: &Path, name: &str) -> PathBuf {
     let program = written(name);
     // After "-x none" the archive is taken for what it is.
     let archive = ["-x", "none", env!("STEAMGUSSET_ARCHIVE")];
-    run(compile.arg(file("examples/receiver.c")).args(archive).arg("-o").arg(&program));
+    run(compile.arg(source).args(archive).arg("-o").arg(&program));
     program
+}
+
+fn source() -> PathBuf {
+    file("examples/receiver.c")
 }
 
 /// The receiver in C, with the header of a folder.
 fn receiver(name: &str, include: &Path) -> Option<PathBuf> {
     let compiler = program("CC", "cc")?;
-    Some(build(compile(&compiler, "c", "c99", include), name))
+    Some(build(compile(&compiler, "c", "c99", include), &source(), name))
+}
+
+/// What it prints, and the file that it writes.
+fn received(program: PathBuf) -> (String, Vec<u8>) {
+    let picture = program.with_extension("picture");
+    let printed = run(Command::new(program).arg(&picture));
+    (printed, std::fs::read(&picture).expect("the file that the receiver wrote"))
 }
 
 #[test]
 fn the_receiver_gives_the_picture_that_the_second_program_gives() {
     for (compiler, language, standard) in compilers() {
-        let program = build(compile(&compiler, language, standard, &file("include")), &format!("receiver-{standard}"));
-        let picture = written(&format!("receiver-{standard}.picture"));
-        let printed = run(Command::new(program).arg(&picture));
+        let compile = compile(&compiler, language, standard, &file("include"));
+        let (printed, picture) = received(build(compile, &source(), &format!("receiver-{standard}")));
         assert_eq!(printed, documented(), "{standard}");
-        judge(&printed, &std::fs::read(&picture).expect("the file that the receiver wrote"));
+        judge(&printed, &picture);
+    }
+}
+
+/// A file with the receiver's source in another format than 4:2:0.
+fn source_in(format: &str) -> PathBuf {
+    let text = std::fs::read_to_string(source()).expect("the receiver");
+    let described = |format: &str| format!("d.format = {format};\n");
+    assert!(text.contains(&described("SG_FORMAT_420")), "no format");
+    let file = written(&format!("receiver-{format}.c"));
+    std::fs::write(&file, text.replace(&described("SG_FORMAT_420"), &described(format))).expect("a source");
+    file
+}
+
+#[test]
+fn the_receiver_takes_other_formats_by_their_names() {
+    let Some(compiler) = program("CC", "cc") else { return };
+    for (format, number) in [("SG_FORMAT_422", 2), ("SG_FORMAT_444", 3)] {
+        let compile = compile(&compiler, "c", "c99", &file("include"));
+        let (printed, picture) = received(build(compile, &source_in(format), &format!("receiver-{format}")));
+        assert_eq!(Saved::parse(&picture).picture.format, number);
+        judge(&printed, &picture);
     }
 }
 

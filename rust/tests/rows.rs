@@ -6,19 +6,19 @@ use second::{Picture, stage};
 use steamgusset::{State, calls};
 
 /// CTB columns and rows: below, at and above the number of marks that are looked at together; one column, one row, and
-/// columns that do not divide it.
-const GRIDS: [(u32, u32); 7] = [(1, 1), (9, 7), (8, 8), (1, 65), (130, 1), (13, 13), (30, 17)];
+/// columns that do not divide it. In 4:2:0, 4:2:2 and 4:4:4, which have chroma rows of two heights.
+const GRIDS: [(u32, u32, u8); 7] = [(1, 1, 2), (9, 7, 1), (8, 8, 2), (1, 65, 3), (130, 1, 1), (13, 13, 2), (30, 17, 3)];
 
 const FILTERED: u8 = 2;
 
 /// A picture of so many CTBs, the last ones cut short.
-fn picture((columns, rows): (u32, u32)) -> Picture {
-    Picture { width: 16 * columns - 8, height: 16 * rows - 8, ctb: 16, format: 1, depth: 8, luma: true, chroma: true }
+fn picture((columns, rows, format): (u32, u32, u8)) -> Picture {
+    Picture { width: 16 * columns - 8, height: 16 * rows - 8, ctb: 16, format, depth: 8, luma: true, chroma: true }
 }
 
 fn state(picture: &Picture) -> State {
-    let Picture { width, height, ctb, .. } = *picture;
-    State { width, height, ctb, format: 1, depth: 8, luma: 1, chroma: 1, next: 0 }
+    let Picture { width, height, ctb, format, .. } = *picture;
+    State { width, height, ctb, format: format.into(), depth: 8, luma: 1, chroma: 1, next: 0 }
 }
 
 /// Both sides of the marks of one component.

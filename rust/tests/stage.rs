@@ -2,17 +2,22 @@
 //! as numbers.
 
 use steamgusset::{
-    BINS_BYTES, Block, Buffers, CtuSet, Lent, Memory, Offsets, Picture, Plane, Refusal, Refused, Rows, SET_BYTES,
-    Sizes, Stage, State, calls,
+    BINS_BYTES, Block, Buffers, ChromaFormat, CtuSet, Lent, Memory, Offsets, Picture, Plane, Refusal, Refused, Rows,
+    SET_BYTES, Sizes, Stage, State, calls,
 };
 
 /// Nine CTUs, those on the right and below cut short.
-const NINE: Picture = Picture { width: 40, height: 40, ctb: 16, format: 1, depth: 10, luma: true, chroma: true };
+const NINE: Picture =
+    Picture { width: 40, height: 40, ctb: 16, format: ChromaFormat::Chroma420, depth: 10, luma: true, chroma: true };
 
 /// Four CTUs; the last has a left and an upper neighbour.
 const FOUR: Picture = Picture { width: 32, height: 32, ..NINE };
 
-const MONOCHROME: Picture = Picture { format: 0, chroma: false, ..NINE };
+const MONOCHROME: Picture = Picture { format: ChromaFormat::Monochrome, chroma: false, ..NINE };
+
+/// Nine CTUs in 4:2:2 and in 4:4:4.
+const HALF_WIDTH: Picture = Picture { format: ChromaFormat::Chroma422, ..NINE };
+const FULL: Picture = Picture { format: ChromaFormat::Chroma444, ..NINE };
 
 type Outcome = Result<(), Refusal>;
 
@@ -119,7 +124,7 @@ fn filled(sizes: &Sizes) -> Buffers {
 
 #[test]
 fn owned_or_lent_and_in_either_order_the_planes_are_the_same() -> Outcome {
-    for picture in [NINE, FOUR, MONOCHROME] {
+    for picture in [NINE, FOUR, MONOCHROME, HALF_WIDTH, FULL] {
         let mut owned = Stage::open(picture)?;
         run(&mut owned, &forwards(picture))?;
         assert!(is_finished(&owned));
@@ -303,6 +308,44 @@ fn a_stage_may_go_to_another_thread() -> Outcome {
     Ok(())
 }
 
+// Formats.
+
+/// The sizes of chroma by document 02's words: half width and full height in 4:2:2, luma's own in 4:4:4; and of the CTBs
+/// in the corners.
+#[test]
+fn planes_and_ctbs_go_by_the_format() -> Outcome {
+    let corners = |picture: Picture| [0, 2, 6, 8].map(|ctb| picture.block(1, ctb));
+    let place = |x0, x1, y0, y1| Ok(Block { x0, x1, y0, y1 });
+
+    let sizes = HALF_WIDTH.sizes()?;
+    assert_eq!((sizes.width, sizes.height, sizes.samples), ([40, 20, 20], [40; 3], [1600, 800, 800]));
+    let expected = [place(0, 8, 0, 16), place(16, 20, 0, 16), place(0, 8, 32, 40), place(16, 20, 32, 40)];
+    assert_eq!(corners(HALF_WIDTH), expected);
+
+    let sizes = FULL.sizes()?;
+    assert_eq!((sizes.width, sizes.height, sizes.samples), ([40; 3], [40; 3], [1600; 3]));
+    assert_eq!(corners(FULL), [0, 2, 6, 8].map(|ctb| FULL.block(0, ctb)));
+
+    // Every format has as many CTBs in chroma as in luma.
+    assert_eq!(
+        [HALF_WIDTH, FULL].map(|picture| picture.sizes().map(|sizes| (sizes.ctus, sizes.marks))),
+        [Ok((9, 27)); 2]
+    );
+    Ok(())
+}
+
+#[test]
+fn formats_have_the_standards_names_and_numbers() {
+    let named = ChromaFormat::ALL.map(|format| (u32::from(format), format.to_string()));
+    assert_eq!(named, [(0, "monochrome"), (1, "4:2:0"), (2, "4:2:2"), (3, "4:4:4")].map(|(n, name)| (n, name.into())));
+    for number in 0..=300 {
+        let format = ChromaFormat::try_from(number);
+        assert_eq!(format.map(u32::from), if number <= 3 { Ok(number) } else { Err(Refusal::Description) });
+    }
+    assert_eq!(ChromaFormat::try_from(u32::MAX), Err(Refusal::Description));
+    assert_eq!(format!("{:>6}|", ChromaFormat::Chroma422), " 4:2:2|");
+}
+
 // Refusals.
 
 #[test]
@@ -311,9 +354,8 @@ fn opening_is_refused() {
         Picture { width: 41, ..NINE },
         Picture { height: 8200, ..NINE },
         Picture { ctb: 8, ..NINE },
-        Picture { format: 2, ..NINE },
         Picture { depth: 17, ..NINE },
-        Picture { format: 0, ..NINE },
+        Picture { format: ChromaFormat::Monochrome, ..NINE },
     ];
     for picture in wrong {
         assert_eq!(Stage::open(picture).err(), Some(Refusal::Description));
@@ -452,6 +494,7 @@ fn damaged_buffers_are_refused() -> Outcome {
     assert_eq!(deblocked, filled(&sizes).deblocked);
 
     // A state may hold numbers that no description has.
+    assert_eq!(calls::sizes(&State { format: 4, ..state }), Err(Refusal::Description));
     assert_eq!(calls::sizes(&State { format: 256, ..state }), Err(Refusal::Description));
     assert_eq!(calls::sizes(&State { luma: 2, ..state }), Err(Refusal::Description));
     Ok(())

@@ -7,11 +7,12 @@ use crate::picture::Picture;
 use crate::random::Random;
 use crate::sets::{ComponentSet, CtuSet};
 
-/// A description within the rules, at most `most` luma samples wide and high (a multiple of 8).
+/// A description within the rules, at most `most` luma samples wide and high (a multiple of 8), each format as often as
+/// any other.
 pub fn picture(random: &mut Random, most: u32) -> Picture {
     let mut side = || 8 * (1 + random.below(most as usize / 8) as u32);
     let (width, height) = (side(), side());
-    let format = random.below(4).min(1) as u8;
+    let format = random.below(4) as u8;
     Picture {
         width,
         height,
@@ -19,7 +20,7 @@ pub fn picture(random: &mut Random, most: u32) -> Picture {
         format,
         depth: 8 + random.below(9) as u8,
         luma: !random.once_in(5),
-        chroma: format == 1 && !random.once_in(5),
+        chroma: format != 0 && !random.once_in(5),
     }
 }
 
@@ -86,4 +87,22 @@ pub fn plane(random: &mut Random, picture: &Picture, component: usize) -> Vec<u1
 /// The three deblocked planes; an absent one is empty.
 pub fn planes(random: &mut Random, picture: &Picture) -> [Vec<u16>; 3] {
     std::array::from_fn(|component| plane(random, picture, component))
+}
+
+#[cfg(test)]
+mod tests {
+    use super::*;
+
+    /// Of 10,000 pictures each format has about a quarter, and all keep the rules.
+    #[test]
+    fn the_formats_are_drawn_in_equal_shares() {
+        let mut random = Random::new(4);
+        let mut times = [0; 4];
+        for _ in 0..10_000 {
+            let picture = picture(&mut random, 72);
+            assert!(!picture.breaks_a_rule(), "{picture:?}");
+            times[usize::from(picture.format)] += 1;
+        }
+        assert!(times.iter().all(|times| (2_000..=3_000).contains(times)), "{times:?}");
+    }
 }

@@ -1,8 +1,8 @@
-//! The second program: the stage of document 01 (sample adaptive offset) once more, by another method, to judge the
-//! stage that is proved.
+//! The second program: the stage of document 01 (sample adaptive offset), with the formats that document 02 adds (K1),
+//! once more, by another method, to judge the stage that is proved.
 //!
-//! Written from document 01 and ITU-T H.265 (04/2013) 7.3.8.3, 7.4.9.3, 8.7.3 and 9.3.3 alone. Where a receiver would
-//! be quick, this is plain:
+//! Written from these documents and ITU-T H.265 (04/2013) 6.2, 7.3.8.3, 7.4.9.3, 8.7.3 and 9.3.3 alone. Where a receiver
+//! would be quick, this is plain:
 //!
 //! - samples ([`filter`]): every sample of the picture from H.265's own formulas, over `i64`;
 //! - bins ([`bins`]): strings of '0' and '1'; a reader that strips code words, a writer that makes every form and keeps

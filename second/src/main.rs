@@ -2,7 +2,7 @@
 //!
 //! A subcommand is a line of [`COMMANDS`]: its name, what it is given, and the function that does it. A mistake is one
 //! sentence on the error stream; the exit status is 2 for the command line and 1 for anything in the files. A picture
-//! that document 01 does not cover is no mistake.
+//! that is not covered is no mistake.
 
 use second::replay::{Tally, through_the_stage};
 use second::stored::bytes;
@@ -119,13 +119,13 @@ fn not_written(why: io::Error) -> Mistake {
 fn judged(file: &str) -> (Outcome, String) {
     match covered(file) {
         Ok(Ok(vector)) => compared(&vector).unwrap_or_else(|why| (Outcome::Damaged, why)),
-        Ok(Err(why)) => (Outcome::NotCovered, format!("document 01 does not cover the picture: {why}")),
+        Ok(Err(why)) => (Outcome::NotCovered, format!("the picture is not covered: {why}")),
         Err(fault @ Fault::Damaged(_)) => (Outcome::Damaged, fault.to_string()),
         Err(fault @ Fault::CannotBeRead(_)) => (Outcome::CannotBeRead, fault.to_string()),
     }
 }
 
-/// The vector of a file, or why document 01 does not cover its picture. The system knows the length of a regular file.
+/// The vector of a file, or why its picture is not covered. The system knows the length of a regular file.
 fn covered(file: &str) -> Result<Result<Vector, String>, Fault> {
     let file = File::open(file)?;
     let known = file.metadata()?;
@@ -148,7 +148,7 @@ fn name(file: &str) -> String {
 
 fn line(picture: &Picture, tally: &Tally) -> String {
     let Picture { width, height, ctb, depth, .. } = picture;
-    let format = if picture.format == 0 { "monochrome" } else { "4:2:0" };
+    let format = ["monochrome", "4:2:0", "4:2:2", "4:4:4"][usize::from(picture.format)];
     let Tally { ctus, changed, samples, .. } = tally;
     format!(
         "{width}x{height}, CTB size {ctb}, {format}, depth {depth}, CTUs {ctus}, {changed} of {samples} samples changed"

@@ -4,9 +4,6 @@
 //! [`Picture::breaks_a_rule`] is meant for a description that keeps the rules; the reasons see to it that reason 1 is
 //! asked first.
 
-/// How many samples of luma stand beside one of chroma, across and down, in 4:2:0.
-const CHROMA_DIVISOR: usize = 2;
-
 /// The description. Plain numbers, so that a wrong one can be handed in and refused.
 #[derive(Clone, Copy, Debug, PartialEq, Eq)]
 pub struct Picture {
@@ -14,7 +11,7 @@ pub struct Picture {
     pub height: u32,
     /// CTB size in luma samples.
     pub ctb: u32,
-    /// chroma_format_idc: 0 monochrome, 1 is 4:2:0.
+    /// ChromaArrayType: 0 monochrome, 1 is 4:2:0, 2 is 4:2:2, 3 is 4:4:4.
     pub format: u8,
     pub depth: u8,
     /// The switch that says whether luma is filtered.
@@ -58,13 +55,13 @@ impl Block {
 }
 
 impl Picture {
-    /// Reason 1.
+    /// Reason 1, from which document 02 (K1) takes 4:2:2 and 4:4:4.
     pub fn breaks_a_rule(&self) -> bool {
         let bad_side = |side: u32| !side.is_multiple_of(8) || !(8..=8192).contains(&side);
         bad_side(self.width)
             || bad_side(self.height)
             || ![16, 32, 64].contains(&self.ctb)
-            || ![0, 1].contains(&self.format)
+            || self.format > 3
             || !(8..=16).contains(&self.depth)
             || (self.format == 0 && self.chroma)
     }
@@ -74,17 +71,25 @@ impl Picture {
         if self.format == 0 { 1 } else { 3 }
     }
 
-    /// By how much a component is narrower and lower than luma.
-    fn divisor(&self, component: usize) -> usize {
-        if component == 0 { 1 } else { CHROMA_DIVISOR }
+    /// By how much a component is narrower and lower than luma: its divisors across and down. Those of chroma are
+    /// SubWidthC and SubHeightC of H.265 Table 6-1.
+    pub fn divisors(&self, component: usize) -> [usize; 2] {
+        match (component, self.format) {
+            (0, _) => [1, 1],
+            (_, 1) => [2, 2],
+            (_, 2) => [2, 1],
+            _ => [1, 1],
+        }
     }
 
     pub fn plane_width(&self, component: usize) -> usize {
-        self.width as usize / self.divisor(component)
+        let [across, _] = self.divisors(component);
+        self.width as usize / across
     }
 
     pub fn plane_height(&self, component: usize) -> usize {
-        self.height as usize / self.divisor(component)
+        let [_, down] = self.divisors(component);
+        self.height as usize / down
     }
 
     /// The samples of a plane; an absent one has none.
@@ -95,9 +100,9 @@ impl Picture {
         self.plane_width(component) * self.plane_height(component)
     }
 
-    /// The side of a component's whole CTBs, in its own samples.
-    pub fn ctb_side(&self, component: usize) -> usize {
-        self.ctb as usize / self.divisor(component)
+    /// The width and height of a component's whole CTBs, in its own samples.
+    pub fn ctb_sides(&self, component: usize) -> [usize; 2] {
+        self.divisors(component).map(|divisor| self.ctb as usize / divisor)
     }
 
     pub fn columns(&self) -> usize {
@@ -125,14 +130,14 @@ impl Picture {
 
     /// The samples of one CTB, cut short at the picture's right and lower border.
     pub fn block(&self, component: usize, ctb: usize) -> Block {
-        let side = self.ctb_side(component);
-        let left = ctb % self.columns() * side;
-        let top = ctb / self.columns() * side;
+        let [wide, high] = self.ctb_sides(component);
+        let left = ctb % self.columns() * wide;
+        let top = ctb / self.columns() * high;
         Block {
             left,
             top,
-            right: (left + side).min(self.plane_width(component)),
-            bottom: (top + side).min(self.plane_height(component)),
+            right: (left + wide).min(self.plane_width(component)),
+            bottom: (top + high).min(self.plane_height(component)),
         }
     }
 
@@ -149,8 +154,8 @@ impl Picture {
 
     /// The number of the CTB that a sample lies in.
     pub fn ctb_at(&self, component: usize, x: usize, y: usize) -> usize {
-        let side = self.ctb_side(component);
-        y / side * self.columns() + x / side
+        let [wide, high] = self.ctb_sides(component);
+        y / high * self.columns() + x / wide
     }
 
     pub fn left_of(&self, ctu: usize) -> Option<usize> {
@@ -161,18 +166,18 @@ impl Picture {
         ctu.checked_sub(self.columns())
     }
 
-    /// All CTBs of a component in raster order: its plane cut every CTB side, across and down, from the upper left
-    /// corner on.
+    /// All CTBs of a component in raster order: its plane cut every CTB width across and every CTB height down, from the
+    /// upper left corner on.
     pub fn ctbs(&self, component: usize) -> impl Iterator<Item = Block> + use<> {
-        let side = self.ctb_side(component);
+        let [wide, high] = self.ctb_sides(component);
         let (width, height) = (self.plane_width(component), self.plane_height(component));
         let cut = move |left: usize, top: usize| Block {
             left,
             top,
-            right: (left + side).min(width),
-            bottom: (top + side).min(height),
+            right: (left + wide).min(width),
+            bottom: (top + high).min(height),
         };
-        (0..height).step_by(side).flat_map(move |top| (0..width).step_by(side).map(move |left| cut(left, top)))
+        (0..height).step_by(high).flat_map(move |top| (0..width).step_by(wide).map(move |left| cut(left, top)))
     }
 
     /// The CTB itself and its neighbours, up to eight: of all CTBs of the picture those that touch it.
@@ -212,11 +217,41 @@ mod tests {
 
     #[test]
     fn the_planes_are_cut_into_the_blocks() {
-        for component in 0..3 {
-            let blocks: Vec<Block> = (0..6).map(|ctb| SIX.block(component, ctb)).collect();
-            assert_eq!(SIX.ctbs(component).collect::<Vec<_>>(), blocks);
-            assert_eq!(blocks.iter().map(Block::samples).sum::<usize>(), SIX.plane_samples(component));
+        for (format, component) in (1..=3).flat_map(|format| (0..3).map(move |component| (format, component))) {
+            let picture = Picture { format, ..SIX };
+            let blocks: Vec<Block> = (0..6).map(|ctb| picture.block(component, ctb)).collect();
+            assert_eq!(picture.ctbs(component).collect::<Vec<_>>(), blocks);
+            assert_eq!(blocks.iter().map(Block::samples).sum::<usize>(), picture.plane_samples(component));
+            let places = blocks.iter().enumerate().flat_map(|(ctb, block)| block.places().map(move |at| (ctb, at)));
+            for (ctb, (x, y)) in places {
+                assert_eq!(picture.ctb_at(component, x, y), ctb);
+            }
         }
+    }
+
+    /// Document 02: half width and full height in 4:2:2, as luma in 4:4:4; in 4:2:0, by document 01, half of both.
+    #[test]
+    fn chroma_has_its_width_and_its_height() {
+        let four = |format| Picture { width: 24, height: 24, format, ..SIX };
+        let whole_and_cut = [
+            (1, [12, 12], [[8, 8], [4, 8], [8, 4], [4, 4]]),
+            (2, [12, 24], [[8, 16], [4, 16], [8, 8], [4, 8]]),
+            (3, [24, 24], [[16, 16], [8, 16], [16, 8], [8, 8]]),
+        ];
+        for (format, plane, ctbs) in whole_and_cut {
+            let picture = four(format);
+            let sides = |block: Block| [block.right - block.left, block.bottom - block.top];
+            for component in [1, 2] {
+                assert_eq!([picture.plane_width(component), picture.plane_height(component)], plane);
+                assert_eq!(picture.ctbs(component).map(sides).collect::<Vec<_>>(), ctbs);
+                assert_eq!(picture.plane_samples(component), plane[0] * plane[1]);
+            }
+            assert_eq!([picture.plane_width(0), picture.plane_height(0)], [24, 24]);
+            assert_eq!((picture.ctus(), picture.marks()), (4, 12));
+        }
+        let monochrome = four(0);
+        assert_eq!([0, 1, 2].map(|component| monochrome.plane_samples(component)), [576, 0, 0]);
+        assert_eq!((monochrome.ctus(), monochrome.marks()), (4, 4));
     }
 
     #[test]

@@ -198,9 +198,16 @@ fn picture(seen: &Seen) -> Picture {
 /// "for each component a deblocked and a filtered plane of exactly width times height 16-bit samples (length 0 for an
 /// absent one)".
 fn wrong_planes(seen: &Seen, lent: [&[u16]; 3]) -> bool {
-    let picture = picture(seen);
-    let (luma, half) = ([picture.width, picture.height], [picture.width / 2, picture.height / 2]);
-    let sides = if picture.format == 0 { [luma, [0, 0], [0, 0]] } else { [luma, half, half] };
+    let Picture { width, height, format, .. } = picture(seen);
+    let chroma = match format {
+        0 => [0, 0],
+        // "4:2:0 with chroma planes and chroma CTBs of half width and half height"
+        1 => [width / 2, height / 2],
+        // "In 4:2:2 chroma planes and chroma CTBs have half width and full height; in 4:4:4 they equal luma"
+        2 => [width / 2, height],
+        _ => [width, height],
+    };
+    let sides = [[width, height], chroma, chroma];
     lent.map(<[u16]>::len) != sides.map(|[width, height]| width as usize * height as usize)
 }
 
@@ -223,7 +230,7 @@ fn wrong_table(seen: &Seen) -> bool {
     seen.table.len() != ctus(seen) * table::ENTRY_BYTES
 }
 
-/// The components present: "monochrome, or 4:2:0 with chroma planes".
+/// The components present: luma alone in "monochrome", with chroma planes in every other format.
 fn present(picture: &Picture) -> std::ops::Range<usize> {
     if picture.format == 0 { 0..1 } else { 0..3 }
 }

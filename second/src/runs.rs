@@ -132,13 +132,15 @@ impl Script {
 
     fn broken_description(&mut self) -> Picture {
         let picture = self.picture;
-        match self.random.below(7) {
+        match self.random.below(8) {
             0 => Picture { width: self.random.pick(&[0, 4, picture.width + 4, 8200, u32::MAX]), ..picture },
             1 => Picture { height: self.random.pick(&[0, 4, picture.height + 4, 8200, u32::MAX]), ..picture },
             2 => Picture { ctb: self.random.pick(&[0, 8, 128, u32::MAX]), ..picture },
-            3 => Picture { format: self.random.pick(&[2, 3, 255]), ..picture },
+            3 => Picture { format: self.random.pick(&[4, 128, 255]), ..picture },
             4 => Picture { depth: self.random.pick(&[0, 7, 17, 255]), ..picture },
             5 => Picture { format: 0, chroma: true, ..picture },
+            // Keeps the rules, mostly beside planes of other sizes.
+            6 => Picture { format: self.random.pick(&[1, 2, 3]), ..picture },
             // Keeps the rules and changes the meaning of all that is stored.
             _ => Picture { depth: 8, luma: !picture.luma, ..picture },
         }

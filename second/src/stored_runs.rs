@@ -1,8 +1,8 @@
 //! What the proved program `replay` is run on, and what it must write: the files `stdin` and `stdout` of crates/replay.
 //!
-//! Method: runs of calls on pictures of each CTB size are drawn with fixed seeds ([`drawn`]), document 01's case 10
-//! first. A [`Machine`] keeps what the proved program keeps, makes each call by [`apply`] and says what comes of it in a
-//! line.
+//! Method: runs of calls on pictures of each CTB size and format are drawn with fixed seeds ([`drawn`]), document 01's
+//! case 10 first. A [`Machine`] keeps what the proved program keeps, makes each call by [`apply`] and says what comes of
+//! it in a line.
 //! The byte format, the samples made from a few numbers and the sums are those that the program describes; nothing else
 //! is shared with it.
 

@@ -2,7 +2,8 @@
 //!
 //! Method: the bytes are read part after part as the format lists them, each part checked against what the parts before
 //! it say. A damaged file gives a sentence, never a panic; nothing is made that the file has no bytes for, and nothing is
-//! read after the byte that shows a file to go on too long, nor after a header that document 01 does not speak of.
+//! read after the byte that shows a file to go on too long, nor after a header whose picture is not covered. Covered is
+//! what document 01 speaks of, and the formats that document 02 adds to it (K1).
 
 use crate::picture::Picture;
 use crate::sets::{ComponentSet, CtuSet};
@@ -64,7 +65,8 @@ pub struct Header {
     pub tile_rows: usize,
     pub segments: usize,
     pub sao_enabled: bool,
-    pub planes: usize,
+    /// ChromaArrayType: chroma_format_idc, but 0 where the three planes of 4:4:4 are coded apart.
+    pub chroma_array_type: u8,
 }
 
 /// A slice segment's six numbers.
@@ -93,15 +95,15 @@ pub struct Vector {
 }
 
 impl Vector {
-    /// The vector of a file, or why document 01 does not speak of its picture. Where the header shows that, the rest stays
-    /// unread, and the file is judged by its length alone, if that is known.
+    /// The vector of a file, or why its picture is not covered. Where the header shows that, the rest stays unread, and the
+    /// file is judged by its length alone, if that is known.
     pub fn covered(file: &mut dyn Read, length: Option<u64>) -> Result<Result<Vector, String>, Fault> {
         let header = Header::read(file)?;
         let right = header.file_bytes();
-        match (header.outside_base(), length.filter(|has| *has != right)) {
+        match (header.not_covered(), length.filter(|has| *has != right)) {
             (None, _) => {
                 let vector = Vector::read(header, file)?;
-                Ok(vector.outside_base().map_or(Ok(vector), Err))
+                Ok(vector.not_covered().map_or(Ok(vector), Err))
             }
             (Some(why), None) => Ok(Err(why)),
             (Some(_), Some(has)) => {
@@ -178,7 +180,7 @@ impl Vector {
 
     /// 7.3.6.1: a flag that is not sent is 0. 7.4.9.3: so is the type of a component whose flag is 0.
     fn flags_rule_the_sets(&self) -> Result<(), String> {
-        let (enabled, chroma) = (self.header.sao_enabled, self.header.planes == 3);
+        let (enabled, chroma) = (self.header.sao_enabled, self.header.planes() == 3);
         for (number, segment) in self.segments.iter().enumerate() {
             if (segment.luma && !enabled) || (segment.chroma && !(enabled && chroma)) {
                 return Err(format!("slice segment {number} has a flag for sample adaptive offset that is not sent"));
@@ -216,20 +218,21 @@ impl Vector {
         }
     }
 
-    /// Why document 01 does not speak of such a picture, or nothing if it does. The header says all but one thing.
-    pub fn outside_base(&self) -> Option<String> {
+    /// Why such a picture is not covered, or nothing if it is. The header says all but one thing.
+    pub fn not_covered(&self) -> Option<String> {
         let first = self.segments[0].slice_address;
         let several_slices = self.segments.iter().any(|segment| segment.slice_address != first);
-        self.header.outside_base().or_else(|| several_slices.then(|| "it has several slices".to_string()))
+        self.header.not_covered().or_else(|| several_slices.then(|| "it has several slices".to_string()))
     }
 
-    /// Whether document 01 speaks of such a picture: monochrome or 4:2:0, one depth, above 10 bits scaled by the 2013
-    /// rule, one slice, one tile and no kept sample.
-    pub fn covered_by_base(&self) -> bool {
-        self.outside_base().is_none()
+    /// Whether such a picture is covered: of any format, one depth, above 10 bits scaled by the 2013 rule, one slice, one
+    /// tile and no kept sample.
+    pub fn is_covered(&self) -> bool {
+        self.not_covered().is_none()
     }
 
-    /// The description of a picture covered by the base: its one slice's flags are the two switches.
+    /// The description of a picture that is covered: its one slice's flags are the two switches. By 7.4.3.2 a plane that
+    /// is coded apart from the other two is decoded as a monochrome picture, and described as one.
     pub fn picture(&self) -> Picture {
         let header = &self.header;
         let slice = &self.segments[0];
@@ -237,7 +240,7 @@ impl Vector {
             width: header.width as u32,
             height: header.height as u32,
             ctb: 1 << header.ctb_log2,
-            format: header.chroma_format_idc,
+            format: header.chroma_array_type,
             depth: header.depth_luma,
             luma: slice.luma,
             chroma: slice.chroma,
@@ -283,7 +286,7 @@ impl Header {
             tile_rows: within(fields[14], 1, fields[8], "number of tile rows")?,
             segments: within(fields[15], 1, fields[7] * fields[8], "number of slice segments")?,
             sao_enabled: within::<u8>(fields[22], 0, 1, "sample_adaptive_offset_enabled_flag")? == 1,
-            planes: if within::<u8>(fields[24], 0, 3, "ChromaArrayType")? == 0 { 1 } else { 3 },
+            chroma_array_type: within(fields[24], 0, 3, "ChromaArrayType")?,
         };
         within::<u8>(fields[12], 0, 1, "loop_filter_across_tiles_enabled_flag")?;
         within::<u8>(fields[23], 0, 3, "OR of the skip map")?;
@@ -312,9 +315,9 @@ impl Header {
         }
     }
 
-    /// Why the header alone puts the picture outside document 01, or nothing.
-    pub fn outside_base(&self) -> Option<String> {
-        let chroma = self.planes == 3;
+    /// Why by the header alone the picture is not covered, or nothing.
+    pub fn not_covered(&self) -> Option<String> {
+        let chroma = self.planes() == 3;
         let Header { width, height, depth_luma, depth_chroma, scale_luma, scale_chroma, .. } = *self;
         // Document 01 multiplies every offset by 2 to this power.
         let shift = depth_luma - depth_luma.min(10);
@@ -325,7 +328,6 @@ impl Header {
                 width > LARGEST_SIDE || height > LARGEST_SIDE,
                 format!("its size is {width}x{height}, above {LARGEST_SIDE}"),
             ),
-            (self.chroma_format_idc > 1, "its format is neither monochrome nor 4:2:0".to_string()),
             (chroma && depth_luma != depth_chroma, format!("it has the depths {depth_luma} and {depth_chroma}")),
             (scale_luma != shift, sent(scale_luma, "luma")),
             (chroma && scale_chroma != shift, sent(scale_chroma, "chroma")),
@@ -342,11 +344,16 @@ impl Header {
         self.fields[23] & kept != 0
     }
 
+    /// How many planes the file has of each kind.
+    pub fn planes(&self) -> usize {
+        if self.chroma_array_type == 0 { 1 } else { 3 }
+    }
+
     /// How many bytes the file has by what the header says.
     pub fn file_bytes(&self) -> u64 {
         let planes: usize = (0..3).map(|component| self.plane_samples(component)).sum();
         let tables = 4 * (self.tile_columns + 1 + self.tile_rows + 1) + 24 * self.segments;
-        let ctus = (4 + 8 * self.planes) * self.columns * self.rows;
+        let ctus = (4 + 8 * self.planes()) * self.columns * self.rows;
         let skip = (self.width >> self.min_cb_log2) * (self.height >> self.min_cb_log2);
         (MAGIC.len() + 4 * FIELDS + tables + ctus + skip + 2 * (2 * planes)) as u64
     }
@@ -354,7 +361,7 @@ impl Header {
     fn plane_samples(&self, component: usize) -> usize {
         let across = if component > 0 && self.chroma_format_idc < 3 { 2 } else { 1 };
         let down = if component > 0 && self.chroma_format_idc < 2 { 2 } else { 1 };
-        if component < self.planes { (self.width / across) * (self.height / down) } else { 0 }
+        if component < self.planes() { (self.width / across) * (self.height / down) } else { 0 }
     }
 }
 
@@ -397,7 +404,7 @@ fn boundaries(rest: &mut Rest, tiles: usize, last: usize, which: &str) -> Result
 fn ctu(rest: &mut Rest, header: &Header) -> Result<(usize, CtuSet), Fault> {
     let segment = within(rest.number("sets")?, 0, header.segments as i32 - 1, "slice segment of a CTB")?;
     let mut components = [ComponentSet::Off; 3];
-    for component in &mut components[..header.planes] {
+    for component in &mut components[..header.planes()] {
         *component = component_set(rest.array("sets")?)?;
     }
     Ok((segment, CtuSet::of(components)))

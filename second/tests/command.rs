@@ -36,8 +36,10 @@ fn vectors_agree() {
     let arguments: Vec<&str> = ["vectors"].into_iter().chain(files.iter().map(String::as_str)).collect();
     let (status, lines, error) = second(&arguments);
     assert_eq!((status, error.as_str()), (Some(0), ""));
-    assert_eq!(lines.lines().filter(|line| line.ends_with(": agrees")).count(), 26);
-    assert!(lines.ends_with("\n26 agree, 0 differ, 0 not covered, 0 damaged, 0 cannot be read\n"), "{lines}");
+    assert_eq!(lines.lines().filter(|line| line.ends_with(": agrees")).count(), 46);
+    let named = |format: &str| lines.lines().filter(|line| line.contains(format)).count();
+    assert_eq!([", monochrome, ", ", 4:2:0, ", ", 4:2:2, ", ", 4:4:4, "].map(named), [3, 23, 3, 17]);
+    assert!(lines.ends_with("\n46 agree, 0 differ, 0 not covered, 0 damaged, 0 cannot be read\n"), "{lines}");
 }
 
 #[test]
@@ -68,7 +70,7 @@ fn every_file_has_its_line_or_sentence() {
 }
 
 #[test]
-fn a_picture_outside_the_base() {
+fn a_picture_that_is_not_covered() {
     let mut bytes = vector();
     // A lossless unit: the skip map, whose OR is the header's number 23, ends where the planes, twice, begin.
     let planes = 2 * 2 * (72 * 56 * 3 / 2);
@@ -77,7 +79,7 @@ fn a_picture_outside_the_base() {
     bytes[8 + 4 * 23] |= 2;
     let (status, lines, error) = second(&["vectors", &file("kept.sao", &bytes)]);
     assert_eq!((status, error.as_str()), (Some(0), ""));
-    let why = "it has lossless or PCM units that keep their samples";
+    let why = "the picture is not covered: it has lossless or PCM units that keep their samples";
     let end = format!("{why}\n0 agree, 0 differ, 1 not covered, 0 damaged, 0 cannot be read\n");
     assert!(lines.ends_with(&end), "{lines}");
 }

@@ -97,16 +97,19 @@ fn any_order_ends_as_the_whole_picture() {
 /// Finished rows grow CTB row by CTB row, cut short by the first block that is not filtered.
 #[test]
 fn finished_rows_grow() {
-    let picture = Picture { width: 24, height: 40, ..common::NINE };
-    let mut world = World::lent_for(&picture);
-    let state = common::state(picture, 6);
-    world.filtered[1] = (0..12 * 20).collect();
     let marks = [[0, 0, 0, 0, 0, 0], [2, 1, 2, 2, 2, 2], [2, 2, 2, 2, 0, 2], [2, 2, 2, 1, 2, 2], [2; 6]];
-    for (marks, rows) in marks.into_iter().zip([0, 0, 16, 8, 20]) {
-        world.marks[6..12].copy_from_slice(&marks);
-        let answer = apply(&mut world, state, Call::FinishedRows { component: 1 });
-        assert_eq!(answer.answer, Ok(Value::Rows(rows)));
-        assert_eq!(answer.part, world.filtered[1][..12 * rows]);
+    // Only in 4:2:0 are the CTBs of Cb lower than those of luma.
+    let formats = [(1, 12, [0, 0, 16, 8, 20]), (2, 12, [0, 0, 32, 16, 40]), (3, 24, [0, 0, 32, 16, 40])];
+    for (format, width, grown) in formats {
+        let picture = Picture { width: 24, height: 40, format, ..common::NINE };
+        let mut world = World::lent_for(&picture);
+        world.filtered[1] = (0..).take(width * grown[4]).collect();
+        for (marks, rows) in marks.into_iter().zip(grown) {
+            world.marks[6..12].copy_from_slice(&marks);
+            let answer = apply(&mut world, common::state(picture, 6), Call::FinishedRows { component: 1 });
+            assert_eq!(answer.answer, Ok(Value::Rows(rows)));
+            assert_eq!(answer.part, world.filtered[1][..width * rows]);
+        }
     }
 }
 

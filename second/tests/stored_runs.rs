@@ -73,7 +73,7 @@ fn the_runs_are_of_every_kind() {
     let calls = calls();
     let whole = |made: &&Made| made.answer.answer == Ok(Value::Rows(made.state.picture.plane_height(0)));
     println!("replay: {runs} runs, luma finished {} times", calls.iter().filter(whole).count());
-    for (depth, format) in (8..=16).flat_map(|depth| [0, 1].map(|format| (depth, format))) {
+    for (depth, format) in (8..=16).flat_map(|depth| [0, 1, 2, 3].map(|format| (depth, format))) {
         let filtered = |made: &Made| {
             let picture = made.state.picture;
             matches!(made.call, Call::Filter { .. }) && (picture.depth, picture.format) == (depth, format)
@@ -98,7 +98,7 @@ fn is_cut_short(picture: &Picture) -> bool {
 #[test]
 fn the_larger_pictures_are_of_every_kind() {
     let calls = calls();
-    let formats = [16, 32, 64].into_iter().flat_map(|ctb| [0, 1].map(|format| (ctb, format)));
+    let formats = [16, 32, 64].into_iter().flat_map(|ctb| [0, 1, 2, 3].map(|format| (ctb, format)));
     for (ctb, format, depth) in formats.flat_map(|(ctb, format)| DEPTHS.map(|depth| (ctb, format, depth))) {
         let last = |made: &Made, picture: &Picture| match made.call {
             Call::Filter { ctb, .. } => ctb as usize == picture.ctus() - 1,

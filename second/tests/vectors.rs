@@ -16,6 +16,7 @@ fn vectors() -> Vec<(String, Vector)> {
         let bytes = std::fs::read(&file).expect("a readable vector");
         let name = file.file_name().unwrap_or_default().to_string_lossy().into_owned();
         let vector = Vector::parse(&bytes).unwrap_or_else(|why| panic!("{name}: {why}"));
+        assert_eq!(vector.header.file_bytes(), bytes.len() as u64, "{name}");
         (name, vector)
     });
     parsed.collect()
@@ -26,7 +27,7 @@ fn every_vector_comes_out_bit_for_bit() {
     let mut total = Tally::default();
     let vectors = vectors();
     for (name, vector) in &vectors {
-        assert!(vector.covered_by_base(), "{name}");
+        assert!(vector.is_covered(), "{name}");
         let (picture, sets) = (vector.picture(), vector.sets());
         assert!(!picture.breaks_a_rule(), "{name}");
         assert!(sets.iter().all(|set| set.within_rules(&picture)), "{name}");
@@ -44,7 +45,9 @@ fn every_vector_comes_out_bit_for_bit() {
     println!(
         "compared {files} files in {ORDERS} orders: {ctus} CTUs, {bins} bins, {samples} samples, {changed} changed"
     );
-    assert_eq!(files, 26);
+    assert_eq!(files, 46);
+    let of = |format: u8| vectors.iter().filter(|(_, vector)| vector.picture().format == format).count();
+    assert_eq!([0, 1, 2, 3].map(of), [3, 23, 3, 17]);
     assert!(ctus > 0 && bins > 0 && samples > 0 && changed > 0);
 }
 
@@ -110,9 +113,9 @@ fn segmented(second: [i32; 5]) -> Vec<u8> {
 fn one_slice_may_have_several_segments() {
     let whole = Vector::parse(&twenty_ctus()).expect("a sound file");
     let vector = Vector::parse(&segmented([0, 1, 1, 1, 0])).expect("two segments");
-    assert!(vector.covered_by_base() && vector.picture() == whole.picture() && vector.sets() == whole.sets());
+    assert!(vector.is_covered() && vector.picture() == whole.picture() && vector.sets() == whole.sets());
     let slices = Vector::parse(&segmented([7, 0, 1, 1, 0])).expect("two slices");
-    assert_eq!(slices.outside_base(), Some("it has several slices".into()));
+    assert_eq!(slices.not_covered(), Some("it has several slices".into()));
     // Another slice than the one before it, and other flags.
     for second in [[7, 1, 1, 1, 0], [0, 1, 1, 0, 0]] {
         let why = "slice segment 1 is dependent, but goes on with no slice before it";
@@ -132,16 +135,28 @@ fn one_slice_may_have_several_segments() {
 #[test]
 fn above_10_bits_the_sent_scale_decides() {
     let scaled = || bundled("s_400_12_scale-000.sao");
-    let outside = |bytes: Vec<u8>| Vector::parse(&bytes).expect("a sound file").outside_base();
-    assert_eq!(outside(scaled()), None);
+    let not_covered = |bytes: Vec<u8>| Vector::parse(&bytes).expect("a sound file").not_covered();
+    assert_eq!(not_covered(scaled()), None);
     // No chroma, so its depth and scale do not matter.
-    assert_eq!(outside(with(scaled(), &[(4, 8), (10, 0)])), None);
-    assert_eq!(outside(with(scaled(), &[(9, 0)])), Some("it sends scale 0 for luma, where the 2013 rule has 2".into()));
+    assert_eq!(not_covered(with(scaled(), &[(4, 8), (10, 0)])), None);
+    let sent = "it sends scale 0 for luma, where the 2013 rule has 2";
+    assert_eq!(not_covered(with(scaled(), &[(9, 0)])), Some(sent.into()));
     let deep = |scale: i32| with(twenty_ctus(), &[(3, 12), (4, 12), (9, 2), (10, scale)]);
-    assert_eq!(outside(deep(2)), None);
-    assert_eq!(outside(deep(1)), Some("it sends scale 1 for chroma, where the 2013 rule has 2".into()));
-    // 4:4:4 with planes coded apart has one plane in the file, as monochrome has.
-    assert_eq!(outside(with(scaled(), &[(2, 3)])), Some("its format is neither monochrome nor 4:2:0".into()));
+    assert_eq!(not_covered(deep(2)), None);
+    assert_eq!(not_covered(deep(1)), Some("it sends scale 1 for chroma, where the 2013 rule has 2".into()));
+}
+
+/// 4:4:4 with planes coded apart (chroma_format_idc 3, ChromaArrayType 0) has one plane in the file, as monochrome has.
+#[test]
+fn a_plane_coded_apart_is_a_monochrome_picture() {
+    let monochrome = Vector::parse(&bundled("s_400_12_scale-000.sao")).expect("a sound file");
+    // Chroma's depth and scale say nothing of a plane that is coded as luma is.
+    for numbers in [&[(2, 3)][..], &[(2, 3), (4, 8), (10, 0)]] {
+        let apart = Vector::parse(&with(bundled("s_400_12_scale-000.sao"), numbers)).expect("a sound file");
+        assert_eq!((apart.header.chroma_format_idc, apart.header.chroma_array_type), (3, 0));
+        assert!(apart.is_covered() && apart.picture() == monochrome.picture() && apart.picture().format == 0);
+        assert!(apart.sets() == monochrome.sets() && apart.deblocked == monochrome.deblocked);
+    }
 }
 
 #[test]
@@ -178,12 +193,13 @@ fn no_more_is_read_than_the_header_announces() {
 }
 
 #[test]
-fn nothing_is_read_after_a_header_outside_document_01() {
+fn nothing_is_read_after_a_header_that_is_not_covered() {
     for (numbers, why) in [
         (&[(0, 8208), (1, 8192), (7, 513), (8, 512)][..], "its size is 8208x8192, above 8192"),
-        (&[(2, 2), (24, 2)], "its format is neither monochrome nor 4:2:0"),
-        (&[(2, 3), (24, 3)], "its format is neither monochrome nor 4:2:0"),
         (&[(4, 9)], "it has the depths 8 and 9"),
+        (&[(2, 2), (24, 2), (4, 9)], "it has the depths 8 and 9"),
+        (&[(2, 3), (24, 3), (14, 2)], "it has several tiles"),
+        (&[(2, 3), (24, 0), (3, 11), (4, 8)], "it sends scale 0 for luma, where the 2013 rule has 1"),
         (&[(3, 12), (4, 12), (9, 1), (10, 2)], "it sends scale 1 for luma, where the 2013 rule has 2"),
         (&[(13, 2)], "it has several tiles"),
         (&[(23, 2)], "it has lossless or PCM units that keep their samples"),
@@ -200,10 +216,12 @@ fn nothing_is_read_after_a_header_outside_document_01() {
         let damage = Vector::covered(&mut bytes.as_slice(), Some(136)).expect_err("a short file");
         assert_eq!(damage.to_string(), format!("the file has 136 bytes, where its header announces {right}"));
     }
-    // One that document 01 speaks of is read.
-    let pcm = with(twenty_ctus()[..136].to_vec(), &[(23, 1)]);
-    let damage = Vector::covered(&mut pcm.as_slice(), None).expect_err("a short file");
-    assert_eq!(damage.to_string(), "the file ends within its tile boundaries");
+    // One that is covered is read.
+    for numbers in [&[(23, 1)][..], &[(2, 2), (24, 2)], &[(2, 3), (24, 3)], &[(2, 3), (24, 0)]] {
+        let bytes = with(twenty_ctus()[..136].to_vec(), numbers);
+        let damage = Vector::covered(&mut bytes.as_slice(), None).expect_err("a short file");
+        assert_eq!(damage.to_string(), "the file ends within its tile boundaries");
+    }
 }
 
 #[test]

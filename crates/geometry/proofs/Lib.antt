@@ -1,4 +1,3 @@
-pub mod Formats
 pub mod Counts
 pub mod Marks
 pub mod Neighbours

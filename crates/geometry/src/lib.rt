@@ -68,7 +68,7 @@ pub fn is_described(p: Picture) -> bool
     if !is_ctb_size(p.ctb) {
         return false;
     }
-    if p.format > 1 {
+    if p.format > 3 {
         return false;
     }
     if p.depth < 8 {
@@ -177,7 +177,11 @@ fn divisors_of(format: u8, component: u8) -> Divisors
     if component == 0 {
         return Divisors { across: 1, down: 1 };
     }
-    Divisors { across: 2, down: 2 }
+    match format {
+        1 => Divisors { across: 2, down: 2 },
+        2 => Divisors { across: 2, down: 1 },
+        _ => Divisors { across: 1, down: 1 },
+    }
 }
 
 fn quotient(n: u32, divisor: usize) -> usize

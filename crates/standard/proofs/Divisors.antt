@@ -1,21 +1,55 @@
 -- What a component's width and height are divided by is 1 or 2, and what follows of planes and CTBs: only here is `divisors` unfolded.
-use mathlib.Core.Path.{_≡_, refl, sym, subst}
+use mathlib.Core.Path.{_≡_, refl, sym, ap, _∙_, subst}
+use mathlib.Core.Bool.{Bool, true, false, cond}
 use mathlib.Core.Logic.{_⊎_, inl, inr, ⊎-elim}
 use Prim.Native.Nat.{ℕ, zero, suc, _*_, _/_, _%_, _≤_, _<_}
 use native.Mathlib.Nat.{mul-le-mul}
 use native.Mathlib.Omega.{arith}
+use borrow.Author.Tests.{ne-eqb}
+use lib.Dec.{eqb}
 use Rattle.standard.specs.declared.Picture.{Picture}
 use Rattle.standard.specs.Picture.{Side, Rules, divisors, planeWidth, planeHeight, ctbWidth, ctbHeight}
 
-pub across-is : (format i : ℕ) → (divisors format i .0 ≡ 1) ⊎ (divisors format i .0 ≡ 2)
+-- ---- format by format
+
+pub of-luma : (format : ℕ) {i : ℕ} → i ≡ 0 → divisors format i ≡ (1, 1)
 unfolding divisors
-across-is format zero = inl refl
-across-is format (suc i) = inr refl
+of-luma format e = rw e
+
+of-chroma : (format i : ℕ) → ¬ (i ≡ 0) → divisors format i ≡ cond (eqb format 1) (2, 2) (cond (eqb format 2) (2, 1) (1, 1))
+unfolding divisors
+of-chroma format zero n = absurd (n refl)
+of-chroma format (suc i) n = refl
+
+module _ (format i : ℕ) (chroma : ¬ (i ≡ 0)) where
+  pub of-420 : format ≡ 1 → divisors format i ≡ (2, 2)
+  of-420 e = ap (λ (f : ℕ). divisors f i) e ∙ of-chroma 1 i chroma
+
+  pub of-422 : format ≡ 2 → divisors format i ≡ (2, 1)
+  of-422 e = ap (λ (f : ℕ). divisors f i) e ∙ of-chroma 2 i chroma
+
+  -- of 4:4:4, and of a format without chroma
+  pub of-444 : ¬ (format ≡ 1) → ¬ (format ≡ 2) → divisors format i ≡ (1, 1)
+  of-444 m n = simp (of-chroma format i chroma, ne-eqb _ _ m, ne-eqb _ _ n)
+
+-- ---- over every format
+
+-- what holds of the three pairs holds of every component in every format
+of-each : (P : ℕ × ℕ → Type 0) → P (1, 1) → P (2, 1) → P (2, 2) → (format i : ℕ) → P (divisors format i)
+unfolding divisors
+of-each P whole wide half format zero = whole
+of-each P whole wide half format (suc i) = chroma (eqb format 1) (eqb format 2)
+  where
+    chroma : (one two : Bool) → P (cond one (2, 2) (cond two (2, 1) (1, 1)))
+    chroma true two = half
+    chroma false true = wide
+    chroma false false = whole
+
+pub across-is : (format i : ℕ) → (divisors format i .0 ≡ 1) ⊎ (divisors format i .0 ≡ 2)
+across-is = of-each (λ d. (d .0 ≡ 1) ⊎ (d .0 ≡ 2)) (inl refl) (inr refl) (inr refl)
 
 pub down-is : (format i : ℕ) → (divisors format i .1 ≡ 1) ⊎ (divisors format i .1 ≡ 2)
-unfolding divisors
-down-is format zero = inl refl
-down-is format (suc i) = inr refl
+down-is = of-each (λ d. (d .1 ≡ 1) ⊎ (d .1 ≡ 2)) (inl refl) (inl refl) (inr refl)
 
 -- side s of a plane, where the picture's is n and d divides it
 pub record PlaneSide (d n s : ℕ) : Type 0 where

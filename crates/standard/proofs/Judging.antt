@@ -43,7 +43,7 @@ rules? p =
     (Dec·and (side? (p .width))
     (Dec·and (side? (p .height))
     (Dec·and (or? (ℕ-discrete (p .ctb) 16) (or? (ℕ-discrete (p .ctb) 32) (ℕ-discrete (p .ctb) 64)))
-    (Dec·and (or? (ℕ-discrete (p .format) 0) (ℕ-discrete (p .format) 1))
+    (Dec·and (decLe (p .format) 3)
     (Dec·and (decLe 8 (p .depth)) (Dec·and (decLe (p .depth) 16) (mono? (p .format) (p .chroma))))))))
 
 unfoldable pub adjacent? : (p : Picture) (k j : ℕ) → Dec (Adjacent p k j)

@@ -1,5 +1,6 @@
 -- Laws of the definitions, bottom to top; `Cases` has document 01's ten cases.
 pub mod Divisors
+pub mod Formats
 pub mod Grid
 pub mod Rasters
 pub mod Three

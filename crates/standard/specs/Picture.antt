@@ -19,8 +19,8 @@ pub record Rules (p : Picture) : Type 0 where
   pub width : Side (p .width)
   pub height : Side (p .height)
   pub size : (p .ctb ≡ 16) ⊎ ((p .ctb ≡ 32) ⊎ (p .ctb ≡ 64))
-  -- chroma_format_idc: monochrome, or 4:2:0
-  pub format : (p .format ≡ 0) ⊎ (p .format ≡ 1)
+  -- chroma_format_idc: monochrome, 4:2:0, 4:2:2 or 4:4:4
+  pub format : p .format ≤ 3
   pub depth-least : 8 ≤ p .depth
   pub depth-most : p .depth ≤ 16
   -- the chroma switch must be off in monochrome
@@ -32,10 +32,10 @@ depthOf p i = p .depth
 
 -- ---- components and planes
 
--- SubWidthC and SubHeightC, by chroma_format_idc and component: what its width and height are divided by
+-- what a component's width and height are divided by: of chroma SubWidthC and SubHeightC, by chroma_format_idc (Table 6-1)
 unfoldable pub divisors : ℕ → ℕ → ℕ × ℕ
 divisors format zero = (1, 1)
-divisors format (suc i) = (2, 2)
+divisors format (suc i) = cond (eqb format 1) (2, 2) (cond (eqb format 2) (2, 1) (1, 1))
 
 abbrev pub components : Picture → ℕ
 components p = cond (eqb (p .format) 0) 1 3

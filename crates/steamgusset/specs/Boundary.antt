@@ -18,7 +18,7 @@ abbrev pub MAJOR : ℕ
 MAJOR = 4
 
 abbrev pub MINOR : ℕ
-MINOR = 0
+MINOR = 1
 
 -- the two as one number, the major above the low 16 bits
 abbrev pub versionOf : ℕ → ℕ → ℕ

@@ -21,7 +21,7 @@ use standard::WriteAnswer;
 
 const VERSION_MAJOR: u32 = 4;
 
-const VERSION_MINOR: u32 = 0;
+const VERSION_MINOR: u32 = 1;
 
 // Of the archive, for a caller to hold its header's to: the major number above the low 16 bits, the minor in them.
 #[no_mangle]

@@ -13,12 +13,12 @@ use Rattle.standard.proofs.Cases.{ofLuma, case5}
 use Rattle.standard.proofs.Codes.{never}
 use Rattle.standard.proofs.Decisions.{differ, refused-with}
 use Rattle.standard.proofs.Reader.{meant-is-got}
-use Rattle.promises.specs.World.{Read, Filter, Answer, refused, done, set-read, bins-written, rows, Accepted, Result}
+use Rattle.promises.specs.World.{Read, Deliver, Filter, Answer, refused, done, set-read, bins-written, rows, Accepted, Result}
 use Rattle.promises.specs.Demands.{Demand1, Demand2, Demand3}
 use Rattle.promises.specs.Ours.{verdictOf}
 use Rattle.promises.proofs.Second.{reads-clear, reads-as-meant}
-use Rattle.worlds.specs.Wrong.{refusesEverything, readsAsOff, onlyMarks, neverWrites, firstBlockOnly, inventedCount, inventedRows, trustsTheCount, readsPastTheCount, filtersInPlace, waitsForOwnOnly}
-use Rattle.worlds.proofs.Small.{computing, deciding, apart, lives, edgy, edgyBytes, edgyCount, own8, before8, opened8, ready8, calls8, own24, before24, half24, calls24, tall24, lengths8, lengths24, due8, means-edgy}
+use Rattle.worlds.specs.Wrong.{refusesEverything, readsAsOff, onlyMarks, neverWrites, firstBlockOnly, inventedCount, inventedRows, trustsTheCount, readsPastTheCount, filtersInPlace, waitsForOwnOnly, everyFormatIs420}
+use Rattle.worlds.proofs.Small.{computing, deciding, apart, lives, edgy, edgyBytes, edgyCount, own8, before8, opened8, ready8, calls8, own24, before24, half24, calls24, tall24, halved, lengths8, lengths24, due8, means-edgy}
 
 -- ---- a stage that refuses everything, or reads every CTU as off
 
@@ -138,3 +138,11 @@ waits-for-own-only-in-a-life d =
     apart 5 3 tt
     (d .filtered own24 before24 calls24 (lives lengths24 tt tt) 0 0 15 0 (lit< tt) ((lit≤ tt, lit< tt), (lit≤ tt, lit< tt))
     (inr (inr (inr (inl ((refl, refl), tt))))))
+
+-- ---- document 02's K1: chroma of 4:2:2 is taken to have half of luma's rows
+
+pub every-format-is-420 : Demand1 everyFormatIs420 → ⊥
+unfolding everyFormatIs420 computing
+every-format-is-420 d =
+    let block = Deliver 1 0 (replicate 16 8) in
+    accepting (sym (d .refuses block halved 2 (refused-with (verdictOf block halved) tt))) tt

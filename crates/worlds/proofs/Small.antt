@@ -1,7 +1,7 @@
 -- Small pictures and their worlds, and the decisions by which what holds of them is computed: what the premises of the demands ask of a run
 -- of calls is decided for any stage.
 use mathlib.Core.Path.{_≡_, refl, sym, ap, _∙_}
-use mathlib.Core.Bool.{cond}
+use mathlib.Core.Bool.{true, cond}
 use mathlib.Core.List.{List, [], _∷_, _++_}
 use mathlib.Core.Logic.{Dec·and, Dec·not}
 use mathlib.Core.Option.{none}
@@ -237,6 +237,18 @@ calls24 =
 -- TWO CTBs one above the other: 8x24, of which the upper is filtered
 abbrev pub tall24 : World
 tall24 = world (mono 8 24) 2 (replicate 192 7) (replicate 192 1) (2 ∷ 1 ∷ []) (encodeEntry edgy ++ encodeEntry edgy)
+
+-- 8x8 in 4:2:2, opened, but lent chroma planes of 4:2:0
+abbrev pub halved : World
+halved =
+    let planes : Planes = record { y = replicate 64 7; cb = replicate 16 7; cr = replicate 16 7 } in
+    record {
+      state = record { picture = record { width = 8; height = 8; ctb = 16; format = 2; depth = 8; luma = true; chroma = true }; next = 0 };
+      deblocked = planes;
+      filtered = planes;
+      marks = 0 ∷ 0 ∷ 0 ∷ [];
+      table = replicate entrySize 9;
+    }
 
 pub lengths8 : Lengths before8
 unfolding divisors

@@ -1,7 +1,7 @@
--- Stages that look right and are not, each the stage with one thing wrong: those that document 01 names ("How tight the promises are"), and
--- the three versions that document 00 tells of.
+-- Stages that look right and are not, each the stage with one thing wrong: those that document 01 names ("How tight the promises are"), the
+-- three versions that document 00 tells of, and wrong readings of document 02.
 use mathlib.Core.List.{List, [], _++_, map}
-use Prim.Native.Nat.{ℕ, zero, suc, _*_, _/_, _%_, max}
+use Prim.Native.Nat.{ℕ, zero, suc, _*_, _/_, _%_, min, max}
 use native.Mathlib.Decide.{ℕ-discrete}
 use lib.ListN.{set}
 use Rattle.standard.specs.declared.Picture.{Picture}
@@ -178,3 +178,24 @@ unfolding ours
 waitsForOwnOnly = filteringBy (λ i k w.
     let r = ours (Filter i k) (asIfAllIn w) in
     choose (ℕ-discrete (markOf (pictureOf w) (w .marks) i k) 0) (ours (Filter i k) w) (hastily (r .answer) i k w r))
+
+-- ---- wrong readings of document 02
+
+-- K1: every format taken for 4:2:0, with chroma of half width and half height
+abbrev pub in420 : Picture → Picture
+in420 p = record { width = p .width; height = p .height; ctb = p .ctb; format = min (p .format) 1; depth = p .depth; luma = p .luma; chroma = p .chroma }
+
+abbrev pub picturedAs : Picture → World → World
+picturedAs p w = record {
+  state = record { picture = p; next = w .state .next };
+  deblocked = w .deblocked;
+  filtered = w .filtered;
+  marks = w .marks;
+  table = w .table;
+}
+
+unfoldable pub everyFormatIs420 : Stage
+unfolding ours
+everyFormatIs420 c w =
+    let r = ours c (picturedAs (in420 (pictureOf w)) w) in
+    record { answer = r .answer; out = r .out; world = picturedAs (pictureOf w) (r .world) }

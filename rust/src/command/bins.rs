@@ -6,7 +6,7 @@ use super::rules::{largest, refused};
 use super::{Ended, Mistake, Status, set_text};
 use std::ffi::OsString;
 use std::io::{self, Write};
-use steamgusset::{BINS_BYTES, CtuSet, Picture, Stage};
+use steamgusset::{BINS_BYTES, ChromaFormat, CtuSet, Picture, Stage};
 
 pub const HELP: &str = "\
 steamgusset bins [options] HEX COUNT
@@ -19,7 +19,8 @@ put in quotes. COUNT says how many bins there are.
 options:
   --depth N          bit depth, 8 to 16; without it 8
   --luma on|off      the luma switch; without it on
-  --chroma on|off    on: a 4:2:0 picture with chroma filtered; without it off: a monochrome one
+  --chroma on|off    on: a picture with chroma, which is filtered; its bins are the same in 4:2:0, 4:2:2 and 4:4:4;
+                     without it off: a monochrome one
   --left SET         the CTU has a left neighbour with this set
   --up SET           the CTU has an upper neighbour with this set
   --set SET          writes this set
@@ -92,7 +93,7 @@ impl Ctu {
             width: side(left),
             height: side(up),
             ctb: CTB,
-            format: u8::from(chroma),
+            format: if chroma { ChromaFormat::Chroma420 } else { ChromaFormat::Monochrome },
             depth: arguments.number("--depth", 8, 16, 8)?,
             luma: arguments.switch("--luma", true)?,
             chroma,

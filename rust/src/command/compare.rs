@@ -4,10 +4,10 @@
 //! The detail is the square in which luma changed most. Its samples are shown as squares, and its place is outlined in
 //! the images above. Of a large picture these leave samples out, so that all is seen at a glance.
 
+use super::filter::Planes;
 use super::image::{Colour, Image, Part};
 use super::letters;
 use std::cmp::Reverse;
-use steamgusset::Picture;
 
 /// The side of the detail in luma samples; a smaller picture is its own detail.
 const SIDE: usize = 48;
@@ -24,12 +24,12 @@ const INK: Colour = [240; 3];
 const OUTLINE: Colour = [255, 224, 0];
 
 /// The image of a picture's planes before and after, the difference amplified.
-pub fn compared(picture: &Picture, before: [&[u16]; 3], after: [&[u16]; 3], amplify: u8) -> Image {
-    let detail = most_changed(picture, before[0], after[0]);
+pub fn compared(planes: &Planes, amplify: u8) -> Image {
+    let detail = most_changed(planes);
     let columns = [
-        column("before", &Image::of_planes(picture, before), &detail),
-        column("after", &Image::of_planes(picture, after), &detail),
-        column("difference", &Image::of_difference(picture, before[0], after[0], amplify), &detail),
+        column("before", &planes.image_before(), &detail),
+        column("after", &planes.image_after(), &detail),
+        column("difference", &planes.image_of_difference(amplify), &detail),
     ];
     beside(&columns)
 }
@@ -73,9 +73,9 @@ fn below(images: &[Image]) -> Image {
 }
 
 /// The detail: of the squares that begin with a cell, the first in which luma changed most.
-fn most_changed(picture: &Picture, before: &[u16], after: &[u16]) -> Part {
-    let (width, height) = (picture.width as usize, picture.height as usize);
-    let changes = changes(width, before, after);
+fn most_changed(planes: &Planes) -> Part {
+    let ([width, ..], [height, ..]) = (planes.sizes.width, planes.sizes.height);
+    let changes = changes(width, planes.before[0], planes.after[0]);
     let (columns, rows) = (width / CELL, height / CELL);
     let (across, down) = (columns.min(SIDE / CELL), rows.min(SIDE / CELL));
     let change = |(x, y): &(usize, usize)| -> u64 {

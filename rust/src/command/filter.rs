@@ -12,7 +12,7 @@ use super::{Ended, Mistake, Status, say};
 use std::ffi::{OsStr, OsString};
 use std::io::Write;
 use std::path::{Path, PathBuf};
-use steamgusset::Picture;
+use steamgusset::{Picture, Sizes};
 
 pub const HELP: &str = "\
 steamgusset filter FILE [--output OUT.yuv] [--compare OUT.png] [--png PREFIX | --ppm PREFIX] [--amplify N]
@@ -22,8 +22,10 @@ one of the first four options. It does not compare with the file's final planes;
 was done.
 
 options:
-  -o, --output OUT.yuv   the filtered picture as planar YUV: all of Y, then Cb, then Cr (4:0:0: Y alone), a byte a
-                         sample at depth 8, else two bytes, the low one first
+  -o, --output OUT.yuv   the filtered picture as planar YUV: all of Y, then Cb, then Cr, each as large as the format
+                         makes it (4:0:0: Y alone), a byte a sample at depth 8, else two bytes, the low one first.
+                         Players are told size and format: ffplay -f rawvideo -video_size 88x72 -pixel_format
+                         yuv422p10le (gray, yuv420p, yuv422p, yuv444p; with 10le at depth 10, and so on)
   --compare OUT.png      one image: before, after and difference side by side, reduced to 640 pixels or less, and below
                          each, enlarged 8 times, the same square of 48x48 luma samples, where luma changed most; a PPM
                          if the name ends in .ppm
@@ -59,10 +61,25 @@ const PNG: Kind = Kind { ending: "png", bytes: Image::to_png };
 const PPM: Kind = Kind { ending: "ppm", bytes: Image::to_ppm };
 
 /// The planes before and after.
-struct Planes<'a> {
-    picture: Picture,
-    before: [&'a [u16]; 3],
-    after: [&'a [u16]; 3],
+pub struct Planes<'a> {
+    pub depth: u8,
+    pub sizes: Sizes,
+    pub before: [&'a [u16]; 3],
+    pub after: [&'a [u16]; 3],
+}
+
+impl Planes<'_> {
+    pub fn image_before(&self) -> Image {
+        Image::of_planes(self.depth, &self.sizes, self.before)
+    }
+
+    pub fn image_after(&self) -> Image {
+        Image::of_planes(self.depth, &self.sizes, self.after)
+    }
+
+    pub fn image_of_difference(&self, amplify: u8) -> Image {
+        Image::of_difference(&self.sizes, self.before[0], self.after[0], amplify)
+    }
 }
 
 /// What is to be written.
@@ -84,7 +101,7 @@ pub fn run(words: &[OsString], out: &mut dyn Write) -> Ended {
 
     let after = [0, 1, 2].map(|component| run.stage.filtered(component));
     let before = vector.deblocked.each_ref().map(Vec::as_slice);
-    let outputs = asked.outputs(&Planes { picture: vector.picture(), before, after });
+    let outputs = asked.outputs(&Planes { depth: vector.picture().depth, sizes: run.stage.sizes(), before, after });
     write_all(&outputs, &input, out)?;
     let line = line(&vector.picture(), changed(&vector.deblocked, after), &outputs);
     if outputs.iter().any(|output| output.target == Target::StandardOutput) {
@@ -113,12 +130,11 @@ impl<'a> Asked<'a> {
     }
 
     fn outputs(&self, planes: &Planes) -> Vec<Output> {
-        let Planes { picture, before, after } = planes;
-        let output = |word: &OsStr| Output { target: Target::typed(word), bytes: yuv(picture, *after) };
+        let output = |word: &OsStr| Output { target: Target::typed(word), bytes: yuv(planes.depth, planes.after) };
         let compare = |word: &OsStr| {
             let ending = Path::new(word).extension();
             let kind = if ending.is_some_and(|ending| ending.eq_ignore_ascii_case(PPM.ending)) { PPM } else { PNG };
-            let image = compared(picture, *before, *after, self.amplify);
+            let image = compared(planes, self.amplify);
             Output { target: Target::typed(word), bytes: (kind.bytes)(&image) }
         };
         let mut outputs: Vec<Output> = self.output.map(output).into_iter().collect();
@@ -156,20 +172,19 @@ fn filtered(vector: &Vector) -> Result<Run<'_>, String> {
 }
 
 /// The planes one after another.
-fn yuv(picture: &Picture, planes: [&[u16]; 3]) -> Vec<u8> {
+fn yuv(depth: u8, planes: [&[u16]; 3]) -> Vec<u8> {
     let samples = planes.into_iter().flatten();
-    match picture.depth {
+    match depth {
         8 => samples.map(|sample| sample.to_le_bytes()[0]).collect(),
         _ => samples.flat_map(|sample| sample.to_le_bytes()).collect(),
     }
 }
 
 fn image_files(prefix: &OsStr, kind: &Kind, planes: &Planes, amplify: u8) -> [Output; 3] {
-    let Planes { picture, before, after } = planes;
     let images = [
-        ("before", Image::of_planes(picture, *before)),
-        ("after", Image::of_planes(picture, *after)),
-        ("difference", Image::of_difference(picture, before[0], after[0], amplify)),
+        ("before", planes.image_before()),
+        ("after", planes.image_after()),
+        ("difference", planes.image_of_difference(amplify)),
     ];
     images.map(|(which, image)| {
         let mut name = prefix.to_os_string();

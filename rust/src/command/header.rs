@@ -1,6 +1,7 @@
 //! The header of a vector file: a mark and 32 numbers, each within its limits, that agree with each other.
 
 use std::fmt::Arguments;
+use steamgusset::ChromaFormat;
 
 const MARK: &[u8; 8] = b"SAOVEC1\0";
 
@@ -65,7 +66,8 @@ type Numbers = [i32; FIELDS.len()];
 pub struct Header {
     pub width: usize,
     pub height: usize,
-    pub format: u8,
+    /// The format in which the planes are coded, ChromaArrayType: planes of 4:4:4 that are coded apart are monochrome.
+    pub format: ChromaFormat,
     /// Luma and chroma.
     pub depths: [u8; 2],
     pub ctb_log2: u32,
@@ -81,7 +83,6 @@ pub struct Header {
     sao_enabled: bool,
     /// The OR of the skip map.
     pub skip: u8,
-    chroma_array_type: u8,
 }
 
 impl Header {
@@ -100,7 +101,7 @@ impl Header {
         Ok(Header {
             width: numbers[0] as usize,
             height: numbers[1] as usize,
-            format: numbers[2] as u8,
+            format: ChromaFormat::ALL[numbers[24] as usize],
             depths: two(3),
             ctb_log2: numbers[5] as u32,
             min_cb_log2: numbers[6] as u32,
@@ -112,24 +113,23 @@ impl Header {
             segments: numbers[15] as usize,
             sao_enabled: numbers[22] == 1,
             skip: numbers[23] as u8,
-            chroma_array_type: numbers[24] as u8,
         })
     }
 
     pub fn planes(&self) -> usize {
-        if self.chroma_array_type == 0 { 1 } else { 3 }
+        if self.format == ChromaFormat::Monochrome { 1 } else { 3 }
     }
 
     /// Whether slices send their SAO flags for luma and for chroma (7.3.6.1).
     pub fn flags_sent(&self) -> [bool; 2] {
-        [self.sao_enabled, self.sao_enabled && self.chroma_array_type != 0]
+        [self.sao_enabled, self.sao_enabled && self.planes() == 3]
     }
 
     pub fn plane_samples(&self, component: usize) -> usize {
         let [across, down] = match (component, self.format) {
-            (0, _) | (_, 3) => [1, 1],
-            (_, 2) => [2, 1],
-            _ => [2, 2],
+            (0, _) | (_, ChromaFormat::Monochrome | ChromaFormat::Chroma444) => [1, 1],
+            (_, ChromaFormat::Chroma422) => [2, 1],
+            (_, ChromaFormat::Chroma420) => [2, 2],
         };
         if component < self.planes() { (self.width / across) * (self.height / down) } else { 0 }
     }

@@ -1,10 +1,11 @@
 //! Images to look at: planes turned into colours, parts put together, and written as PNG or PPM.
 //!
 //! Colours are those of BT.709 in limited range, whatever the stream says: luma 16 to 235 and chroma 16 to 240 at depth
-//! 8, and their multiples above. A chroma sample serves the four luma samples it belongs to. A PNG here is not packed:
-//! its deflate blocks are stored, which every reader takes and which needs no compressor.
+//! 8, and their multiples above. A chroma sample serves the luma samples it belongs to: four in 4:2:0, two beside each
+//! other in 4:2:2, one in 4:4:4. A PNG here is not packed: its deflate blocks are stored, which every reader takes and
+//! which needs no compressor.
 
-use steamgusset::Picture;
+use steamgusset::Sizes;
 
 /// 8-bit red, green and blue.
 pub type Colour = [u8; 3];
@@ -34,13 +35,13 @@ impl Image {
     }
 
     /// A picture's planes in colour; a monochrome one in grey.
-    pub fn of_planes(picture: &Picture, planes: [&[u16]; 3]) -> Image {
+    pub fn of_planes(depth: u8, sizes: &Sizes, planes: [&[u16]; 3]) -> Image {
         let [luma, cb, cr] = planes;
-        let width = picture.width as usize;
-        let unit = f64::from(1u32 << (picture.depth - 8));
+        let ([width, across, _], [height, down, _]) = (sizes.width, sizes.height);
+        let unit = f64::from(1u32 << (depth - 8));
         let chroma = |plane: &[u16], place: usize| {
-            let (x, y) = (place % width / 2, place / width / 2);
-            plane.get(y * (width / 2) + x).map_or(0.0, |sample| (f64::from(*sample) / unit - 128.0) / 224.0)
+            let (x, y) = (place % width * across / width, place / width * down / height);
+            plane.get(y * across + x).map_or(0.0, |sample| (f64::from(*sample) / unit - 128.0) / 224.0)
         };
         let pixel = |(place, sample): (usize, &u16)| {
             let light = (f64::from(*sample) / unit - 16.0) / 219.0;
@@ -50,12 +51,12 @@ impl Image {
     }
 
     /// What became of luma, amplified: grey 128 is no change, lighter is more.
-    pub fn of_difference(picture: &Picture, before: &[u16], after: &[u16], amplify: u8) -> Image {
+    pub fn of_difference(sizes: &Sizes, before: &[u16], after: &[u16], amplify: u8) -> Image {
         let pixel = |(before, after): (&u16, &u16)| {
             let change = (i32::from(*after) - i32::from(*before)) * i32::from(amplify);
             [(128 + change).clamp(0, 255) as u8; 3]
         };
-        Image::new(picture.width as usize, before.iter().zip(after).map(pixel).collect())
+        Image::new(sizes.width[0], before.iter().zip(after).map(pixel).collect())
     }
 
     pub fn width(&self) -> usize {
@@ -206,6 +207,22 @@ mod tests {
         assert_eq!(colour(0.0, 0.0, 0.0), [0, 0, 0]);
         assert_eq!(colour(1.0, 0.0, 0.0), [255, 255, 255]);
         assert_eq!(colour(0.5, 0.0, 0.0), [128, 128, 128]);
+    }
+
+    /// One sample of Cr stands out, and so do the pixels that it belongs to.
+    #[test]
+    fn a_chroma_sample_colours_its_luma_samples() {
+        let coloured = |across: usize, down: usize| {
+            let sizes = Sizes { width: [8, across, across], height: [8, down, down], ..Sizes::default() };
+            let mut cr = vec![128; across * down];
+            cr[across + 1] = 240;
+            let image = Image::of_planes(8, &sizes, [&[128; 64], &vec![128; across * down], &cr]);
+            let grey = image.pixels[0];
+            (0..64).filter(|place| image.pixels[*place] != grey).map(|place| (place % 8, place / 8)).collect::<Vec<_>>()
+        };
+        assert_eq!(coloured(4, 4), [(2, 2), (3, 2), (2, 3), (3, 3)]);
+        assert_eq!(coloured(4, 8), [(2, 1), (3, 1)]);
+        assert_eq!(coloured(8, 8), [(1, 1)]);
     }
 
     #[test]

@@ -7,7 +7,7 @@ use super::rules::refused;
 use super::shuffle::Step;
 use super::vector::Vector;
 use std::time::{Duration, Instant};
-use steamgusset::{BINS_BYTES, CtuSet, Picture, Refusal, Stage};
+use steamgusset::{BINS_BYTES, ChromaFormat, CtuSet, Picture, Refusal, Stage};
 
 /// The components' names, by their numbers.
 pub const NAMES: [&str; 3] = ["Y", "Cb", "Cr"];
@@ -162,9 +162,12 @@ pub fn changed(before: &[Vec<u16>; 3], after: [&[u16]; 3]) -> [usize; 3] {
     [0, 1, 2].map(differing)
 }
 
-/// The format as it is spoken of.
-pub fn format_name(picture: &Picture) -> &'static str {
-    if picture.format == 0 { "4:0:0" } else { "4:2:0" }
+/// The format as it is spoken of: monochrome by its numbers too.
+pub fn format_name(picture: &Picture) -> String {
+    match picture.format {
+        ChromaFormat::Monochrome => "4:0:0".into(),
+        format => format.to_string(),
+    }
 }
 
 #[cfg(test)]

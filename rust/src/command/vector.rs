@@ -182,9 +182,6 @@ fn not_covered(header: &Header) -> Option<String> {
     let Header { width, height, depths: [luma, chroma], .. } = *header;
     let reasons = [
         (width.max(height) > LARGEST_SIDE, format!("its size is {width}x{height}, above {LARGEST_SIDE}")),
-        (header.format == 2, "its format is 4:2:2".into()),
-        (header.format == 3 && header.planes() == 3, "its format is 4:4:4".into()),
-        (header.format == 3, "its format is 4:4:4 with planes coded apart".into()),
         (header.planes() == 3 && luma != chroma, format!("it has two depths, luma {luma} and chroma {chroma}")),
         (other_scale(header), scales(header)),
         (header.tiles != [1, 1], "it has several tiles".into()),

@@ -64,8 +64,8 @@ pub fn expected() -> [u64; 5] {
 
 /// How many of the descriptions keep the rules.
 pub fn sound_descriptions() -> u64 {
-    // Widths, heights, CTB sizes; 4:2:0 alone, since chroma is on; depths, and two switches.
-    1024 + 1024 + 3 + 1 + 9 + 2 + 2
+    // Widths, heights, CTB sizes; the formats with chroma, since it is on; depths, and two switches.
+    1024 + 1024 + 3 + 3 + 9 + 2 + 2
 }
 
 /// Makes every call, with every byte in every place.

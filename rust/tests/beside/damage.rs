@@ -108,7 +108,7 @@ impl Draw {
             2 if is_any => state.ctb = random.pick(&[any, byte, byte, byte]),
             2 => state.ctb = random.pick(&[0, 1, 8, 15, 17, 24, 48, 63, 65, 128, 272, 1 << 31, u32::MAX]),
             3 if is_any => state.format = byte,
-            3 => state.format = random.pick(&[2, 3, 128, 255]),
+            3 => state.format = random.pick(&[4, 5, 128, 255]),
             4 if is_any => state.depth = byte,
             4 => state.depth = random.pick(&[0, 1, 7, 17, 32, 255]),
             _ => (state.format, state.chroma) = (0, 1),
@@ -125,9 +125,9 @@ impl Draw {
             1 => state.height = random.pick(&side(state.height)),
             2 => (state.width, state.height) = (state.height, state.width),
             3 => state.ctb = random.pick(&[16, 32, 64]),
-            4 => (state.format, state.chroma) = (1 - state.format.min(1), 0),
+            4 => (state.format, state.chroma) = (random.below(4) as u32, 0),
             5 => state.luma = 1 - state.luma.min(1),
-            6 => state.chroma = if state.format == 1 { 1 - state.chroma.min(1) } else { 0 },
+            6 => state.chroma = if state.format == 0 { 0 } else { 1 - state.chroma.min(1) },
             _ => state.depth = 8 + random.below(9) as u32,
         }
     }
@@ -192,7 +192,7 @@ impl Draw {
             2 => {
                 // A set of a picture with both switches on and any depth: sound, but for another description.
                 let other =
-                    Picture { format: 1, depth: random.pick(&[8, 9, 10]), luma: true, chroma: true, ..*picture };
+                    Picture { format: 3, depth: random.pick(&[8, 9, 10]), luma: true, chroma: true, ..*picture };
                 entry.copy_from_slice(&table::encode(&generate::set(random, &other)));
             }
             _ => change_byte(random, entry, most),

@@ -20,7 +20,7 @@ const LONGEST: usize = 5;
 /// A picture of some class within the rules, and the class. A long picture's calls cost much, so it is rare.
 fn picture(random: &mut Random) -> (usize, Picture) {
     let class = if random.once_in(2000) { LONGEST } else { random.pick(&[0, 1, 2, 2, 2, 3, 3, 4, 4]) };
-    let ctb = if class == LONGEST { 64 } else { random.pick(&[16, 16, 16, 32, 32, 64]) };
+    let ctb = if class == LONGEST { 64 } else { random.pick(&[16, 16, 32, 64]) };
     let mut upto = |most: u32| 8 * (1 + random.below(most as usize / 8) as u32);
     let (flat, long) = (upto(16), upto(8 * ctb));
     let (width, height) = match class {
@@ -31,12 +31,13 @@ fn picture(random: &mut Random) -> (usize, Picture) {
         4 => (flat, long),
         _ => random.pick(&[(8192, 8), (8, 8192)]),
     };
-    let format = u8::from(!random.once_in(3));
+    let format = random.below(4) as u8;
     // Depths 8 and 9 have an M of their own each.
     let any = 8 + random.below(9) as u8;
     let depth = random.pick(&[8, 9, any, any, any, any]);
-    let luma = !random.once_in(4);
-    let chroma = format == 1 && !random.once_in(4);
+    // Every kind is to come to its end several times, both switches off among them.
+    let luma = !random.once_in(3);
+    let chroma = format != 0 && !random.once_in(3);
     (class, Picture { width, height, ctb, format, depth, luma, chroma })
 }
 

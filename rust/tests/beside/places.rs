@@ -10,8 +10,9 @@ use second::random::Random;
 use second::replay::{block_samples, blocks};
 use second::{Picture, State, World, generate, table};
 
-/// Nine CTUs, the last row and column cut short: CTBs with every number of neighbours.
-const PICTURE: Picture = Picture { width: 40, height: 40, ctb: 16, format: 1, depth: 10, luma: true, chroma: true };
+/// Nine CTUs, the last row and column cut short: CTBs with every number of neighbours. In 4:2:2 chroma's are twice as
+/// high as wide.
+const PICTURE: Picture = Picture { width: 40, height: 40, ctb: 16, format: 2, depth: 10, luma: true, chroma: true };
 
 /// How often each call must be refused for such a sample: deliver, filter.
 pub fn expected() -> [u64; 2] {

@@ -10,11 +10,14 @@ use std::fmt;
 /// The most reasons that a call has, and its acceptance.
 const MOST_ANSWERS: usize = 11;
 
+/// The formats, by their numbers.
+const FORMATS: [&str; 4] = ["monochrome", "4:2:0", "4:2:2", "4:4:4"];
+
 /// What a picture may be besides its size: CTB size, format, depth, the two switches.
 type Make = (u32, u8, u8, bool, bool);
 
-/// Three CTB sizes, nine depths, two switches in 4:2:0 and one in monochrome.
-const MAKES: usize = 3 * 9 * (4 + 2);
+/// Three CTB sizes, nine depths, two switches in each format with chroma and one in monochrome.
+const MAKES: usize = 3 * 9 * (3 * 4 + 2);
 
 #[derive(Clone, Debug, Default)]
 pub struct Tally {
@@ -25,8 +28,9 @@ pub struct Tally {
     pub long: u64,
     /// By kind: how often done, and how often the call made then was refused.
     damages: [[u64; 2]; DAMAGES.len()],
-    /// Pictures that came to their end.
+    /// Pictures that came to their end, by class and by format.
     ended: [u64; CLASSES.len()],
+    formats: [u64; FORMATS.len()],
     makes: BTreeSet<Make>,
 }
 
@@ -47,6 +51,7 @@ impl Tally {
     pub fn ended(&mut self, class: usize, picture: &Picture) {
         let Picture { ctb, format, depth, luma, chroma, .. } = *picture;
         self.ended[class] += 1;
+        self.formats[usize::from(format)] += 1;
         self.makes.insert((ctb, format, depth, luma, chroma));
     }
 
@@ -56,6 +61,7 @@ impl Tally {
         add_each(self.answers.as_flattened_mut(), other.answers.as_flattened());
         add_each(self.damages.as_flattened_mut(), other.damages.as_flattened());
         add_each(&mut self.ended, &other.ended);
+        add_each(&mut self.formats, &other.formats);
         self.makes.extend(&other.makes);
     }
 
@@ -89,6 +95,12 @@ impl Tally {
     pub fn every_picture(&self) -> bool {
         self.ended.iter().all(|&pictures| pictures > 0) && self.makes.len() == MAKES
     }
+
+    /// Whether each format has a quarter of the pictures, give or take a tenth of it.
+    pub fn equal_shares(&self) -> bool {
+        let all: u64 = self.formats.iter().sum();
+        self.formats.iter().all(|&pictures| (9 * all..=11 * all).contains(&(40 * pictures)))
+    }
 }
 
 fn add_each(sums: &mut [u64], others: &[u64]) {
@@ -116,11 +128,11 @@ impl Tally {
             |((_, name), [done, refused]): (&(Damage, &str), [u64; 2])| format!("  {name:34} {done:8} {refused:8}\n");
         DAMAGES.iter().zip(self.damages).map(spoken).collect()
     }
+}
 
-    fn by_class(&self) -> String {
-        let spoken = |(class, pictures): (&&str, u64)| format!("{class} {pictures}");
-        CLASSES.iter().zip(self.ended).map(spoken).collect::<Vec<_>>().join(", ")
-    }
+/// How many there are of each name.
+fn each(names: &[&str], numbers: &[u64]) -> String {
+    names.iter().zip(numbers).map(|(name, number)| format!("{name} {number}")).collect::<Vec<_>>().join(", ")
 }
 
 /// One line for each call.
@@ -137,7 +149,8 @@ impl fmt::Display for Tally {
         writeln!(out, "reads of more than 65,536 bins within the bytes: {}", self.long)?;
         writeln!(out, "damages of copies, and how many of the calls made on them were refused:")?;
         write!(out, "{}", self.by_damage())?;
-        write!(out, "pictures that came to their end: {}; ", self.by_class())?;
+        write!(out, "pictures that came to their end: {}; ", each(&CLASSES, &self.ended))?;
+        write!(out, "{}; ", each(&FORMATS, &self.formats))?;
         writeln!(out, "{} of {MAKES} kinds of CTB size, format, depth and switches", self.makes.len())
     }
 }

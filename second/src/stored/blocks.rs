@@ -21,9 +21,10 @@ const TIMES: usize = 9;
 /// The samples that the proved program has room for in a plane.
 pub const PLANE: usize = 130 * 130;
 
-/// Widths and heights of blocks: CTBs of each size, those that the picture's border cuts off, and the thinnest.
-pub const SHAPES: [(usize, usize); 10] =
-    [(64, 64), (32, 32), (16, 16), (8, 16), (16, 8), (1, 24), (24, 1), (2, 3), (64, 2), (1, 1)];
+/// Widths and heights of blocks: CTBs of each size, those of half width, those that the picture's border cuts off, and the
+/// thinnest.
+pub const SHAPES: [(usize, usize); 12] =
+    [(64, 64), (32, 32), (16, 16), (32, 64), (16, 32), (8, 16), (16, 8), (1, 24), (24, 1), (2, 3), (64, 2), (1, 1)];
 
 /// The bits that bar the blocks around, by rows: northwest, north, northeast, then west and east, then the three below.
 const BARS: [[u8; 3]; 3] = [[1, 2, 4], [8, 0, 16], [32, 64, 128]];
@@ -240,8 +241,8 @@ fn largest_magnitude(depth: u8) -> u8 {
 fn some_ctb(random: &mut Random, wide: usize, high: usize) -> Placed {
     let mut side = |most: usize| 8 * (1 + random.below(most / 8) as u32);
     let (width, height) = (side(wide), side(high));
-    let (ctb, format) = (random.pick(&[16, 16, 32, 64]), random.pick(&[0, 1]));
-    let picture = Picture { width, height, ctb, format, chroma: format == 1, ..of_depth(8) };
+    let (ctb, format) = (random.pick(&[16, 16, 32, 64]), random.pick(&[0, 1, 2, 3]));
+    let picture = Picture { width, height, ctb, format, chroma: format != 0, ..of_depth(8) };
     let component = random.below(picture.components());
     Placed {
         width: picture.plane_width(component),

@@ -123,7 +123,7 @@ pub fn records() -> Vec<Record> {
     let mut records = document();
     records.extend(combinations(&mut random));
     records.extend((8..=16).flat_map(longest));
-    let damaged: Vec<Record> = (0..120).map(|n| with_a_damaged_entry(&mut random, &records[n * 11 + 20])).collect();
+    let damaged: Vec<Record> = (0..120).map(|n| with_a_damaged_entry(&mut random, &records[n * 17 + 20])).collect();
     records.extend(damaged);
     records.extend(wrong_descriptions());
     records
@@ -178,18 +178,22 @@ fn document() -> Vec<Record> {
     ]
 }
 
-/// The formats and pairs of switches, those with bins twice.
-const SWITCHES: [(u8, bool, bool); 10] = [
+/// The formats and pairs of switches.
+const SWITCHES: [(u8, bool, bool); 14] = [
     (0, false, false),
-    (0, true, false),
     (0, true, false),
     (1, false, false),
     (1, false, true),
-    (1, false, true),
-    (1, true, false),
     (1, true, false),
     (1, true, true),
-    (1, true, true),
+    (2, false, false),
+    (2, false, true),
+    (2, true, false),
+    (2, true, true),
+    (3, false, false),
+    (3, false, true),
+    (3, true, false),
+    (3, true, true),
 ];
 
 /// Every depth with every format and pair of switches, and with every kind of neighbours.
@@ -308,7 +312,7 @@ fn wrong_descriptions() -> Vec<Record> {
         Picture { height: 8200, ..MONOCHROME },
         Picture { ctb: 8, ..MONOCHROME },
         Picture { ctb: 48, ..MONOCHROME },
-        Picture { format: 2, ..MONOCHROME },
+        Picture { format: 4, ..MONOCHROME },
         Picture { depth: 7, ..MONOCHROME },
         Picture { depth: 17, ..MONOCHROME },
         Picture { chroma: true, ..MONOCHROME },

@@ -21,9 +21,6 @@ const SMALL: usize = 110;
 /// The depths of the larger pictures: the least, with M at its largest, with offsets scaled, and the largest.
 pub const DEPTHS: [u8; 4] = [8, 10, 12, 16];
 
-/// How many larger pictures there are of each CTB size, format and depth.
-const TIMES: usize = 2;
-
 /// A run of so many calls is cut short: on a small picture, on a larger one, and on one of 64 CTUs.
 const MOST_CALLS: [usize; 3] = [110, 220, 900];
 
@@ -47,12 +44,11 @@ fn small() -> impl Iterator<Item = Script> {
     scripts.filter(move |script| fits(&script.picture)).take(SMALL)
 }
 
-/// Pictures of every CTB size, in two rows of two or three CTUs, the last of them cut short.
+/// Pictures of every CTB size and format, in two rows of two or three CTUs, the last of them cut short.
 fn larger() -> impl Iterator<Item = Script> {
-    let formats = [16, 32, 64].into_iter().flat_map(|ctb| [0, 1].map(|format| (ctb, format)));
+    let formats = [16, 32, 64].into_iter().flat_map(|ctb| [0, 1, 2, 3].map(|format| (ctb, format)));
     let kinds = formats.flat_map(|(ctb, format)| DEPTHS.map(|depth| (ctb, format, depth)));
-    let kinds = kinds.flat_map(|kind| [kind; TIMES]).enumerate();
-    kinds.filter_map(|(number, (ctb, format, depth))| {
+    kinds.enumerate().filter_map(|(number, (ctb, format, depth))| {
         let mut random = Random::new(1000 + number as u64);
         let picture = cut_short(&mut random, ctb, format, depth);
         Script::of(random, picture).ok()
@@ -427,7 +423,7 @@ impl Run {
         }
         self.make(command);
         for (buffer, place, before, damaged) in damage {
-            if self.machine.at(buffer, place) == damaged {
+            if self.machine.at(buffer, place) == damaged && !self.is_stored_since(&saved, buffer, place) {
                 self.make(Command::Poke { buffer, place, value: before });
             }
         }
@@ -437,6 +433,13 @@ impl Run {
         if of_state {
             self.make(Command::State(saved.state));
         }
+    }
+
+    /// Whether a place lies in an entry that has been stored since then: what stands there is no damage, even if it is
+    /// alike.
+    fn is_stored_since(&self, saved: &Machine, buffer: usize, place: usize) -> bool {
+        let stored = saved.state.next as usize..self.machine.state.next as usize;
+        buffer == 7 && stored.contains(&(place / ENTRY_BYTES))
     }
 
     /// What is refused for good: more sets, blocks again. Then everything handed out, and the picture opened anew.

@@ -1,7 +1,7 @@
--- The law of this side gives that the divisor is not 0, and the bounds of the quotient.
+-- No divisor is 0, and the law of this side gives the bounds of the quotient.
 use native.Mathlib.Omega.{arith}
 use Rattle.standard.proofs.Divisors.{ctb-height}
-use Rattle.geometry.proofs.Counts.{counted, over}
+use Rattle.geometry.proofs.Counts.{counted, over, divide}
 use borrow.Author.Needs.{needs}
 use Rattle.geometry.proofs.ctb_height.Statement.{statement}
 use Rattle.geometry.proofs.ctb_height.Tie as tie
@@ -10,7 +10,7 @@ divisors-of-requires : tie.Need-divisors-of-requires
 divisors-of-requires c κs = search needs
 
 quotient-requires : tie.Need-quotient-requires
-quotient-requires c κs = omega (arith, c .divisors-of .ensures .down, ctb-height (c .before .pre) (c .before .args .component) .divisor)
+quotient-requires c κs = let d = divide (c .divisors-of .ensures) in omega (arith, d .0, d .1)
 
 returns : tie.Need-returns
 returns c =

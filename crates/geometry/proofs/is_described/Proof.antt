@@ -1,8 +1,7 @@
 -- A test that fails refutes the rule that it tests; the rules whose tests passed make up the description's.
-use mathlib.Core.Bool.{Bool, true, false, not}
-use mathlib.Core.Path.{_≡_, refl, sym, _∙_}
-use Prim.Native.Nat.{ℕ, _≤_}
-use mathlib.Core.Logic.{_⊎_, inl, inr, ⊎-elim}
+use mathlib.Core.Bool.{true, false, not}
+use mathlib.Core.Path.{_≡_, sym, _∙_}
+use Prim.Native.Nat.{ℕ}
 use native.Mathlib.Omega.{arith}
 use borrow.Author.Tests.{not-true, not-false, eqb-true, eqb-false}
 use lib.Dec.{eqb}
@@ -12,13 +11,6 @@ use Rattle.standard.proofs.Answers.{passed, failed, tell}
 use borrow.Author.Needs.{needs}
 use Rattle.geometry.proofs.is_described.Statement.{statement}
 use Rattle.geometry.proofs.is_described.Tie as tie
-
-zero-or-one : (n : ℕ) → n ≤ 1 → (n ≡ 0) ⊎ (n ≡ 1)
-zero-or-one n l = of (eqb n 0) refl
-  where
-    of : (t : Bool) → eqb n 0 ≡ t → (n ≡ 0) ⊎ (n ≡ 1)
-    of true e = inl (eqb-true n 0 e)
-    of false e = let k = eqb-false n 0 e in inr (omega arith)
 
 never : true ≡ false → ⊥
 never e = let z : _≡_ {A = ℕ} 0 1 = cc in omega arith
@@ -36,7 +28,7 @@ rules c mono =
       width = passed (width .is-side .result) (width .is-side .ensures) (height .before .if1 .left);
       height = passed (height .is-side2 .result) (height .is-side2 .ensures) (size .before .if2 .left);
       size = passed (size .is-ctb-size .result) (size .is-ctb-size .ensures) (c .before .before .before .before .before .before .if3 .left);
-      format = zero-or-one _ (c .before .before .before .before .if4 .left);
+      format = omega (arith, c .before .before .before .before .if4 .left);
       depth-least = omega (arith, c .before .before .if5 .left);
       depth-most = omega (arith, c .if6 .left);
       mono = mono;
@@ -61,7 +53,7 @@ returns-3 : tie.Need-returns-3
 returns-3 c = λ r. failed (c .before .is-ctb-size .result) (c .before .is-ctb-size .ensures) (c .if3 .taken) (r .size)
 
 returns-4 : tie.Need-returns-4
-returns-4 c = λ r. ⊎-elim (λ e. omega arith) (λ e. omega arith) (r .format)
+returns-4 c = search needs
 
 returns-5 : tie.Need-returns-5
 returns-5 c = search needs

@@ -1,6 +1,6 @@
 //! A `.yuv` of `steamgusset filter` as a player takes it: ffmpeg is told its size and format, as the command's help says,
-//! and what it shows is held to the command's own image, for every bundled picture with chroma. ffmpeg is Debian's package
-//! of that name; where it is not found, the test says so and passes.
+//! and what it shows is held to the command's own image, for every bundled picture that its exact scaler takes. ffmpeg is
+//! Debian's package of that name; where it is not found, the test says so and passes.
 
 mod folders;
 
@@ -18,13 +18,15 @@ const APART: u8 = 1;
 const SHOWN: &str =
     "zscale=matrixin=709:rangein=limited:chromalin=center:filter=point:matrix=gbr:range=full,format=gbrp";
 
-/// The bundled pictures that have chroma: a player takes grey alone to be of full range.
-fn coloured() -> Vec<(PathBuf, Picture)> {
+/// The bundled pictures, but for grey ones above 8 bits: for these the usual scaler comes first, which takes them to be of
+/// full range.
+fn taken() -> Vec<(PathBuf, Picture)> {
     let folder = Path::new(env!("CARGO_MANIFEST_DIR")).join("../vectors");
     let files = fs::read_dir(folder).expect("the bundled vectors").map(|entry| entry.expect("an entry").path());
     let files = files.filter(|file| file.extension().is_some_and(|ending| ending == "sao"));
     let read = |file: &PathBuf| Vector::parse(&fs::read(file).expect("a vector")).expect("a sound vector").picture();
-    files.map(|file| (file.clone(), read(&file))).filter(|(_, picture)| picture.format != 0).collect()
+    let is_taken = |picture: &Picture| picture.format != 0 || picture.depth == 8;
+    files.map(|file| (file.clone(), read(&file))).filter(|(_, picture)| is_taken(picture)).collect()
 }
 
 fn is_there() -> bool {
@@ -61,7 +63,7 @@ fn a_player_shows_the_same_picture() {
     }
     let folder = folders::empty("player");
     let (yuv, prefix) = (folder.join("out.yuv"), folder.join("out"));
-    for (file, picture) in coloured() {
+    for (file, picture) in taken() {
         let mut filter = Command::new(env!("CARGO_BIN_EXE_steamgusset"));
         printed(filter.arg("filter").arg(&file).arg("-o").arg(&yuv).arg("--ppm").arg(&prefix));
         let (ours, theirs) = (fs::read(folder.join("out-after.ppm")).expect("an image"), shown(&yuv, &picture));

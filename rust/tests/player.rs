@@ -14,7 +14,7 @@ use std::process::Command;
 const APART: u8 = 1;
 
 /// A chroma sample serves the luma samples that it belongs to, by the matrix of BT.709 and in limited range. This is
-/// ffmpeg's exact scaler: the usual one wraps colours that lie far outside what can be shown.
+/// ffmpeg's exact scaler: the usual one gave other colours, by up to 255, in some pictures with extreme samples.
 const SHOWN: &str =
     "zscale=matrixin=709:rangein=limited:chromalin=center:filter=point:matrix=gbr:range=full,format=gbrp";
 

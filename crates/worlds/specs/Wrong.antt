@@ -1,8 +1,10 @@
 -- Stages that look right and are not, each the stage with one thing wrong: those that document 01 names ("How tight the promises are"), the
 -- three versions that document 00 tells of, and wrong readings of document 02.
+use mathlib.Core.Bool.{cond}
 use mathlib.Core.List.{List, [], _++_, map}
 use Prim.Native.Nat.{ℕ, zero, suc, _*_, _/_, _%_, min, max}
 use native.Mathlib.Decide.{ℕ-discrete}
+use lib.Dec.{ltb}
 use lib.ListN.{set}
 use Rattle.standard.specs.declared.Picture.{Picture}
 use Rattle.standard.specs.declared.CtuSet.{CtuSet}
@@ -13,6 +15,7 @@ use Rattle.standard.specs.Samples.{Parameters, at, filteredSample}
 use Rattle.standard.specs.Table.{parametersIn}
 use Rattle.standard.specs.Reasons.{planeOf, markOf, leftSet, upperSet}
 use Rattle.standard.proofs.Codes.{Got, got, short}
+use Rattle.standard.proofs.Formats.{inFormat}
 use Rattle.standard.proofs.Rasters.{inside?}
 use Rattle.standard.proofs.Reader.{readCtu}
 use Rattle.promises.specs.World.{World, pictureOf, Open, Read, Write, Deliver, Filter, Rows, Answer, refused, done, set-read, bins-written, rows, Result, Stage}
@@ -181,9 +184,9 @@ waitsForOwnOnly = filteringBy (λ i k w.
 
 -- ---- wrong readings of document 02
 
--- K1: every format taken for 4:2:0, with chroma of half width and half height
+-- K1: every format with chroma taken for 4:2:0, with half width and half height; a number that is no format stays one
 abbrev pub in420 : Picture → Picture
-in420 p = record { width = p .width; height = p .height; ctb = p .ctb; format = min (p .format) 1; depth = p .depth; luma = p .luma; chroma = p .chroma }
+in420 p = inFormat (cond (ltb (p .format) 4) (min (p .format) 1) (p .format)) p
 
 abbrev pub picturedAs : Picture → World → World
 picturedAs p w = record {

@@ -31,7 +31,7 @@ fn script(name: &str, words: &[&str], path: &str) -> Ran {
 
 #[test]
 fn words_that_a_script_does_not_take_are_refused_at_once() {
-    let lines: [(&str, &[&str]); 10] = [
+    let lines: [(&str, &[&str]); 11] = [
         ("run", &["--sed", "7"]),
         ("run", &["--seed"]),
         ("run", &["--seed", "x"]),
@@ -42,6 +42,7 @@ fn words_that_a_script_does_not_take_are_refused_at_once() {
         ("test", &["quick"]),
         ("tools/archive", &[]),
         ("bench/run", &["--quick", "filters"]),
+        ("bench/stack", &[]),
     ];
     let path = without_tools("scripts-refused");
     for (name, words) in lines {
@@ -76,7 +77,7 @@ fn what_is_shown_and_tested_is_what_is_proved_here() {
 #[test]
 fn every_script_has_a_help() {
     let path = without_tools("scripts-help");
-    for name in ["run", "test", "tools/archive", "tools/install", "bench/run"] {
+    for name in ["run", "test", "tools/archive", "tools/install", "bench/run", "bench/stack"] {
         for word in ["--help", "-h"] {
             let (status, lines, error) = script(name, &[word], &path);
             assert_eq!((status, error.as_str()), (Some(0), ""), "{name}");

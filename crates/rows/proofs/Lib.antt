@@ -1,6 +1,5 @@
 pub mod Signs
-pub mod Tables
-pub mod Holds
 pub mod Scales
-pub mod Shifts
-pub mod Keys
+pub mod Lows
+pub mod Picks
+pub mod Moved

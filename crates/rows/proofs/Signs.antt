@@ -1,6 +1,5 @@
--- The sign of a difference of two naturals, the sum of two signs at 16 bits, and the category at such a sum:
--- a signed number is known by the bits that a `match` tests.
-use mathlib.Core.Path.{_≡_, refl, sym, ap, ap₂, _∙_}
+-- The sign of a difference of two naturals, and the sum of two signs at 16 bits.
+use mathlib.Core.Path.{_≡_, refl, ap₂, _∙_}
 use Prim.Native.Nat.{ℕ, zero, suc, _-_, _≤_, _<_}
 use native.Mathlib.Nat.{not-suc-le-zero, le-refl, sub-self, add-zero}
 use native.Mathlib.Omega.{arith}
@@ -9,9 +8,7 @@ use lib.Dec.{lit<}
 use lib.IntN.{ℤ, pos, negsuc, _+ℤ_, _-ℤ_}
 use mir.Syntax.{w16}
 use mir.Val.{SFits, ofZ, toZ}
-use mir.ValLaws.{toZ-ofZ}
-use Rattle.standard.specs.Samples.{sign, edgeIdx}
-use Rattle.standard.proofs.Tables.{category, category-is-edgeIdx}
+use Rattle.standard.specs.Samples.{sign}
 
 pub sign-lt : (s a : ℕ) → s < a → sign (pos s -ℤ pos a) ≡ negsuc 0
 unfolding sign
@@ -63,19 +60,3 @@ sum-is (negsuc m) (negsuc n) = refl
 
 pub sum-of : (x y : ℤ) {S T : ℤ} → S ≡ sign x → T ≡ sign y → pos 2 +ℤ back (back S +ℤ back T) ≡ pos 2 +ℤ sign x +ℤ sign y
 sum-of x y p q = ap₂ (λ (s t : ℤ). pos 2 +ℤ back (back s +ℤ back t)) p q ∙ sum-is x y
-
--- the category of the sum whose bits are n
-pub key : (s : ℤ) (n : ℕ) → SFits w16 s → ofZ w16 s ≡ n → category (toZ w16 n) ≡ edgeIdx (pos 2 +ℤ s)
-key s n f e = ap (λ (m : ℕ). category (toZ w16 m)) (sym e) ∙ ap category (toZ-ofZ w16 s f) ∙ category-is-edgeIdx s
-
-other : (s : ℤ) → (ofZ w16 s ≡ 65534 → ⊥) → (ofZ w16 s ≡ 65535 → ⊥) → (ofZ w16 s ≡ 1 → ⊥) → (ofZ w16 s ≡ 2 → ⊥) → 0 ≡ category s
-other (pos zero) a b c d = refl
-other (pos (suc zero)) a b c d = absurd (c refl)
-other (pos (suc (suc zero))) a b c d = absurd (d refl)
-other (pos (suc (suc (suc n)))) a b c d = refl
-other (negsuc zero) a b c d = absurd (b refl)
-other (negsuc (suc zero)) a b c d = absurd (a refl)
-other (negsuc (suc (suc n))) a b c d = refl
-
-pub rest : (s : ℤ) → (ofZ w16 s ≡ 65534 → ⊥) → (ofZ w16 s ≡ 65535 → ⊥) → (ofZ w16 s ≡ 1 → ⊥) → (ofZ w16 s ≡ 2 → ⊥) → 0 ≡ edgeIdx (pos 2 +ℤ s)
-rest s a b c d = other s a b c d ∙ category-is-edgeIdx s

@@ -2,10 +2,9 @@
 use mathlib.Core.Path.{_≡_}
 use mathlib.Core.List.{List}
 use mathlib.Core.Option.{some}
-use Prim.Native.Nat.{ℕ, _+_, _-_, _/_, _%_, _^_, _≤_, _<_}
+use Prim.Native.Nat.{ℕ, _≤_, _<_}
 use lib.ListN.{length, getD}
 use Rattle.standard.specs.Samples.{bandIdx, edgeIdxOf}
-use Rattle.rows.specs.declared.ByIndex.{ByIndex}
 use Rattle.rows.specs.declared.Moves.{Moves}
 use Rattle.rows.specs.Moves.{moved}
 
@@ -21,19 +20,6 @@ pub record Equal (s a b out : List ℕ) : Type 0 where
   pub own : length s ≡ length out
   pub first : length a ≡ length out
   pub second : length b ≡ length out
-
--- the band of a sample, of 32
-abbrev pub bandOf : ℕ → ℕ → ℕ
-bandOf depth s = s / 2 ^ (depth - 5) % 32
-
--- the four bands from the position on, modulo 32
-abbrev pub bandsFrom : ℕ → ByIndex
-bandsFrom position = record {
-  n1 = (position + 0) % 32;
-  n2 = (position + 1) % 32;
-  n3 = (position + 2) % 32;
-  n4 = (position + 3) % 32;
-}
 
 -- a depth and a band position of the rules
 pub record Banded (depth position : ℕ) : Type 0 where

@@ -1,16 +1,21 @@
 // Rows of sample adaptive offset (H.265 8.7.3): equal parts of the deblocked plane, and one of the
-// filtered plane. A sample is moved within its own 16 bits, by an offset that is split into a rise
-// and a fall, so that a row's loop has no branch and becomes vector code.
+// filtered plane. For a sample no table is read and nothing is matched: comparisons mask the four
+// offsets, and the sum saturates in the sample's own 16 bits, so that a row's loop has no branch and
+// becomes vector code.
 ghost use mathlib.Core.Path.{_≡_};
+ghost use mathlib.Core.Bool.{cond};
 ghost use mathlib.Core.Option.{some};
-ghost use Prim.Native.Nat.{_+_, _-_, _%_, _^_, _≤_, _<_, min};
+ghost use Prim.Native.Nat.{_+_, _-_, _^_, _≤_, _<_};
+ghost use lib.Dec.{ltb};
 ghost use lib.IntN.{pos, _+ℤ_, _-ℤ_, _*ℤ_};
 ghost use lib.ListN.{length};
-ghost use Rattle.standard.specs.Samples.{sign, edgeIdx, edgeIdxOf};
+ghost use lib.Signed.{ltZ};
+ghost use Rattle.standard.specs.Samples.{sign, bandIdx, edgeIdx, edgeIdxOf};
 ghost use Rattle.planes.specs.Places.{Filled};
-ghost use Rattle.rows.specs.Moves.{scaledBy, held, risesOf, fallsOf, movesOf, Only, picked, indexOf, Distinct, moved, Room};
+ghost use Rattle.rows.specs.Moves.{scaledBy, movesOf, valueOf, held, moved};
 ghost use Rattle.rows.specs.Categories.{Numbers};
-ghost use Rattle.rows.specs.Parts.{edgeRow, bandRow, Equal, bandOf, bandsFrom, Banded};
+ghost use Rattle.rows.specs.Sample.{lowOf, placeOf, Only, Within};
+ghost use Rattle.rows.specs.Parts.{edgeRow, bandRow, Equal, Banded};
 
 // ---- the offsets of a block
 
@@ -22,18 +27,9 @@ pub struct Scaled {
     pub o4: i16,
 }
 
-// A number for each of the four offsets.
-pub struct ByIndex {
-    pub n1: u16,
-    pub n2: u16,
-    pub n3: u16,
-    pub n4: u16,
-}
-
-// How far each offset raises a sample, how far it lowers one, and the greatest sample.
+// By how much samples are moved, and the greatest sample.
 pub struct Moves {
-    pub rise: ByIndex,
-    pub fall: ByIndex,
+    pub by: Scaled,
     pub top: u16,
 }
 
@@ -56,231 +52,157 @@ pub fn scaled_by(o1: i8, o2: i8, o3: i8, o4: i8, shift: u32) -> Scaled
     }
 }
 
-// v, kept within 0 and top.
-fn hold(v: i32, top: u16) -> u16
-    ensures { λ r. ⌜ r ≡ held top v ⌝ }
-{
-    if v < 0 {
-        return 0;
-    }
-    let u = v as u32;
-    if u < (top as u32) { u as u16 } else { top }
-}
-
-fn rise(o: i16, top: u16) -> u16
-    ensures { λ r. ⌜ r ≡ held top o ⌝ }
-{
-    hold(o as i32, top)
-}
-
-fn fall(o: i16) -> u16
-    ensures { λ r. ⌜ r ≡ held 65535 (pos 0 -ℤ o) ⌝ }
-{
-    hold(0 - (o as i32), 65535)
-}
-
-fn rises(o: Scaled, top: u16) -> ByIndex
-    ensures { λ r. ⌜ r ≡ risesOf top o ⌝ }
-{
-    ByIndex {
-        n1: rise(o.o1, top),
-        n2: rise(o.o2, top),
-        n3: rise(o.o3, top),
-        n4: rise(o.o4, top),
-    }
-}
-
-fn falls(o: Scaled) -> ByIndex
-    ensures { λ r. ⌜ r ≡ fallsOf o ⌝ }
-{
-    ByIndex {
-        n1: fall(o.o1),
-        n2: fall(o.o2),
-        n3: fall(o.o3),
-        n4: fall(o.o4),
-    }
-}
-
 pub fn moves_of(o: Scaled, depth: u32) -> Moves
     requires { ⌜ depth ≤ 16 ⌝ }
     ensures { λ r. ⌜ r ≡ movesOf depth o ⌝ }
 {
-    let top = planes::top_of(depth);
     Moves {
-        rise: rises(o, top),
-        fall: falls(o),
-        top: top,
+        by: o,
+        top: planes::top_of(depth),
     }
 }
 
-// ---- one sample
+// ---- a sample and an offset
 
-fn add_sat(a: u16, b: u16) -> u16
-    ensures { λ r. ⌜ r ≡ min (a + b) 65535 ⌝ }
+// A number of 16 bits, less half of their range: in the same order, and signed, as vectors compare
+// and add.
+fn lowered(n: u16) -> i16
+    ensures { λ r. ⌜ r ≡ lowOf n ⌝ }
 {
-    if a > 65535 - b { 65535 } else { a + b }
+    ((n as i32) - 32768) as i16
 }
 
-fn sub_sat(a: u16, b: u16) -> u16
-    ensures { λ r. ⌜ r ≡ a - b ⌝ }
+fn restored(v: i16) -> u16
+    ensures { λ r. ⌜ v ≡ lowOf r ⌝ }
 {
-    if a > b { a - b } else { 0 }
+    ((v as i32) + 32768) as u16
 }
 
-// s, lowered and raised, and kept within the top: raised by what lies above the top as well, a sum
-// beyond the top is one beyond 16 bits.
-fn shifted(s: u16, fall: u16, rise: u16, top: u16) -> u16
-    requires { ⌜ rise ≤ top ⌝ }
-    ensures { λ r. ⌜ r ≡ min (s - fall + rise) top ⌝ }
+// A sample and an offset, lowered, and kept within 16 bits: one saturating sum of a vector's parts.
+fn add_held(s: u16, o: i16) -> i16
+    ensures { λ r. ⌜ r ≡ lowOf (held 65535 (pos s +ℤ o)) ⌝ }
 {
-    let gap = 65535 - top;
-    add_sat(sub_sat(s, fall), gap + rise) - gap
-}
-
-// Of four, that of index 1 to 4.
-fn pick(v: ByIndex, n: u16) -> u16
-    ensures { λ r. ⌜ r ≡ picked v n ⌝ }
-{
-    match n {
-        1 => v.n1,
-        2 => v.n2,
-        3 => v.n3,
-        4 => v.n4,
-        _ => 0,
+    let v = (lowered(s) as i32) + (o as i32);
+    if v < -32768 {
+        return -32768;
     }
+    if v > 32767 {
+        return 32767;
+    }
+    v as i16
 }
 
-// A sample moved by the offset of index n.
-fn move_sample(m: Moves, n: u16, s: u16) -> u16
-    requires { ⌜ Room m ⌝ }
-    ensures { λ r. ⌜ r ≡ moved m n s ⌝ }
+fn lesser(a: i16, b: i16) -> i16
+    ensures { λ r. ⌜ r ≡ cond (ltZ a b) a b ⌝ }
 {
-    let up = m.rise;
-    let down = m.fall;
-    shifted(s, pick(down, n), pick(up, n), m.top)
+    if a < b { a } else { b }
 }
 
-// v where n is k: a mask, where a match on a sample's band would stay a branch.
-fn only(n: u16, k: u16, v: u16) -> u16
-    ensures { λ r. ⌜ Only n k v r ⌝ }
+// A sample moved by an offset, and kept within 0 and top.
+fn moved_by(s: u16, o: i16, top: u16) -> u16
+    ensures { λ r. ⌜ r ≡ held top (pos s +ℤ o) ⌝ }
 {
-    if n == k { v } else { 0 }
+    restored(lesser(add_held(s, o), lowered(top)))
 }
 
-// Of four, that of the index that n has among the keys.
-fn chosen(keys: ByIndex, v: ByIndex, n: u16) -> u16
-    requires { ⌜ Distinct keys ⌝ }
-    ensures { λ r. ⌜ r ≡ picked v (indexOf keys n) ⌝ }
-{
-    only(n, keys.n1, v.n1)
-        | only(n, keys.n2, v.n2)
-        | only(n, keys.n3, v.n3)
-        | only(n, keys.n4, v.n4)
-}
-
-// A sample moved by the offset whose key is n.
-fn move_keyed(m: Moves, keys: ByIndex, n: u16, s: u16) -> u16
-    requires { ⌜ Room m × Distinct keys ⌝ }
-    ensures { λ r. ⌜ r ≡ moved m (indexOf keys n) s ⌝ }
-{
-    let up = m.rise;
-    let down = m.fall;
-    shifted(s, chosen(keys, down, n), chosen(keys, up, n), m.top)
-}
+// ---- a sample by its neighbours
 
 // The sign of a sample minus its neighbour.
 fn sign_of(s: u16, a: u16) -> i16
     ensures { λ r. ⌜ r ≡ sign (pos s -ℤ pos a) ⌝ }
 {
-    if s < a {
+    let x = lowered(s);
+    let y = lowered(a);
+    if x < y {
         return -1;
     }
-    if a < s {
+    if y < x {
         return 1;
     }
     0
+}
+
+// o where n is k, and 0 elsewhere: a mask.
+fn only(n: i16, k: i16, o: i16) -> i16
+    ensures { λ r. ⌜ Only n k o r ⌝ }
+{
+    if n == k { o } else { 0 }
+}
+
+// The offset of a sum of two signs, that of its category: at most one of the four is not 0.
+fn edge_offset(o: Scaled, n: i16) -> i16
+    ensures { λ r. ⌜ r ≡ valueOf o (edgeIdx (pos 2 +ℤ n)) ⌝ }
+{
+    let a = only(n, -2, o.o1);
+    let b = only(n, -1, o.o2);
+    let c = only(n, 1, o.o3);
+    let d = only(n, 2, o.o4);
+    a + b + c + d
+}
+
+fn edge_sample(m: Moves, s: u16, a: u16, b: u16) -> u16
+    ensures { λ r. ⌜ r ≡ moved m (edgeIdxOf s (some a) (some b)) s ⌝ }
+{
+    moved_by(s, edge_offset(m.by, sign_of(s, a) + sign_of(s, b)), m.top)
 }
 
 // The category numbers of the sums -2, -1, 0, 1 and 2 of two signs.
 const CATEGORIES: [u16; 5] = [1, 2, 0, 3, 4];
 
 // They are those of the definitions, and the numbers of a sum and of its negation mirror each other.
-fn categories() -> [u16; 5]
+// No row reads them: they are for who has to name one sample's category.
+pub fn categories() -> [u16; 5]
     ensures { λ t. ⌜ Numbers t ⌝ }
 {
     CATEGORIES
 }
 
-// The category of a sum of two signs. The places in the table are fixed, and 0 shares its arm with
-// what is no such sum: with an arm of its own a row's loop would not become vector code.
-fn category(s: i16) -> u16
-    ensures { λ r. ⌜ r ≡ edgeIdx (pos 2 +ℤ s) ⌝ }
+// ---- a sample by its band
+
+// A sample's band, less the position, modulo 32. A number beyond the depth has a place as well.
+fn place(s: u16, position: u16, depth: u32) -> u16
+    requires { ⌜ Banded depth position ⌝ }
+    ensures { λ r. ⌜ r ≡ placeOf depth position s ⌝ }
 {
-    let numbers = categories();
-    match s {
-        -2 => numbers[0],
-        -1 => numbers[1],
-        1 => numbers[3],
-        2 => numbers[4],
-        0 | _ => numbers[2],
+    ((s >> (depth - 5)) + 32 - position) % 32
+}
+
+// o where k is at least from and below to, and 0 elsewhere: a mask. Of two tests in one another the
+// compiler makes one.
+fn within(k: u16, from: u16, to: u16, o: i16) -> i16
+    ensures { λ r. ⌜ Within k from to o r ⌝ }
+{
+    if from <= k {
+        if k < to {
+            return o;
+        }
     }
+    0
 }
 
-fn edge_idx(s: u16, a: u16, b: u16) -> u16
-    ensures { λ r. ⌜ r ≡ edgeIdxOf s (some a) (some b) ⌝ }
+// The offset of a place below 4; the other places have none.
+fn band_offset(o: Scaled, k: u16) -> i16
+    ensures { λ r. ⌜ r ≡ valueOf o (cond (ltb k 4) (k + 1) 0) ⌝ }
 {
-    category(sign_of(s, a) + sign_of(s, b))
+    let a = within(k, 0, 1, o.o1);
+    let b = within(k, 1, 2, o.o2);
+    let c = within(k, 2, 3, o.o3);
+    let d = within(k, 3, 4, o.o4);
+    a + b + c + d
 }
 
-fn edge_sample(m: Moves, s: u16, a: u16, b: u16) -> u16
-    requires { ⌜ Room m ⌝ }
-    ensures { λ r. ⌜ r ≡ moved m (edgeIdxOf s (some a) (some b)) s ⌝ }
+fn band_sample(m: Moves, position: u16, depth: u32, s: u16) -> u16
+    requires { ⌜ Banded depth position ⌝ }
+    ensures { λ r. ⌜ r ≡ moved m (bandIdx depth position s) s ⌝ }
 {
-    move_sample(m, edge_idx(s, a, b), s)
-}
-
-fn band_at(position: u16, j: u16) -> u16
-    requires { ⌜ (position < 32) × (j < 4) ⌝ }
-    ensures { λ r. ⌜ r ≡ (position + j) % 32 ⌝ }
-{
-    (position + j) % 32
-}
-
-// The four bands that have an offset.
-fn bands(position: u16) -> ByIndex
-    requires { ⌜ position < 32 ⌝ }
-    ensures { λ r. ⌜ r ≡ bandsFrom position ⌝ }
-{
-    ByIndex {
-        n1: band_at(position, 0),
-        n2: band_at(position, 1),
-        n3: band_at(position, 2),
-        n4: band_at(position, 3),
-    }
-}
-
-// The band of a sample, of 32. A number beyond the depth has one as well.
-fn band_of(s: u16, depth: u32) -> u16
-    requires { ⌜ (8 ≤ depth) × (depth ≤ 16) ⌝ }
-    ensures { λ r. ⌜ r ≡ bandOf depth s ⌝ }
-{
-    (s >> (depth - 5)) % 32
-}
-
-// A band is compared with the four, which are made once for a row: the difference to the position
-// would cost more.
-fn band_sample(m: Moves, four: ByIndex, depth: u32, s: u16) -> u16
-    requires { ⌜ Room m × Distinct four × (8 ≤ depth) × (depth ≤ 16) ⌝ }
-    ensures { λ r. ⌜ r ≡ moved m (indexOf four (bandOf depth s)) s ⌝ }
-{
-    move_keyed(m, four, band_of(s, depth), s)
+    moved_by(s, band_offset(m.by, place(s, position, depth)), m.top)
 }
 
 // ---- rows
 
 // Samples whose neighbours are those of the parts a and b.
 pub fn edge_row(m: Moves, cur: &[u16], a: &[u16], b: &[u16], out: &mut [u16])
-    requires { ⌜ Room m × Equal (now cur) (now a) (now b) (now out) ⌝ }
+    requires { ⌜ Equal (now cur) (now a) (now b) (now out) ⌝ }
     ensures { λ _. ⌜ Filled (length (now (out .entry))) (edgeRow m (now (cur .entry)) (now (a .entry)) (now (b .entry))) (now (out .entry)) (now (out .exit)) ⌝ }
 {
     let mut i: usize = 0;
@@ -291,13 +213,12 @@ pub fn edge_row(m: Moves, cur: &[u16], a: &[u16], b: &[u16], out: &mut [u16])
 }
 
 pub fn band_row(m: Moves, position: u16, depth: u32, cur: &[u16], out: &mut [u16])
-    requires { ⌜ Room m × Banded depth position × (length (now cur) ≡ length (now out)) ⌝ }
+    requires { ⌜ Banded depth position × (length (now cur) ≡ length (now out)) ⌝ }
     ensures { λ _. ⌜ Filled (length (now (out .entry))) (bandRow m depth position (now (cur .entry))) (now (out .entry)) (now (out .exit)) ⌝ }
 {
-    let four = bands(position);
     let mut i: usize = 0;
     while i < out.len() {
-        out[i] = band_sample(m, four, depth, cur[i]);
+        out[i] = band_sample(m, position, depth, cur[i]);
         i += 1;
     }
 }

@@ -24,7 +24,6 @@ ready-after {r = r} k e = record {
   some-rows = k .some-rows;
   first-by-one = k .first-by-one;
   second-by-one = k .second-by-one;
-  room = k .room;
   under = k .under;
   first-reaches = k .first-reaches;
   second-reaches = k .second-reaches;

@@ -13,7 +13,7 @@ use Rattle.standard.specs.declared.Rectangle.{Rectangle}
 use Rattle.standard.specs.Picture.{Inside}
 use Rattle.standard.specs.Samples.{Step, Context, at, bandIdx, edgeIdxOf, neighbour}
 use Rattle.rows.specs.declared.Moves.{Moves}
-use Rattle.rows.specs.Moves.{moved, Room}
+use Rattle.rows.specs.Moves.{moved}
 use Rattle.samples.specs.declared.Around.{Around}
 use Rattle.samples.specs.Steps.{ByOne}
 use Rattle.samples.specs.Around.{Reaches, ReachesBy}
@@ -80,7 +80,6 @@ pub record EdgeReady (l : Layout) (m : Moves) (a b : Step) (o : Around) (r : Rec
   pub some-rows : r .y0 < r .y1
   pub first-by-one : ByOne a
   pub second-by-one : ByOne b
-  pub room : Room m
   pub under : Under l m r plane
   pub first-reaches : ReachesBy l r o a
   pub second-reaches : ReachesBy l r o b

@@ -21,7 +21,7 @@ ghost use Rattle.standard.specs.Sets.{NotNegative};
 ghost use Rattle.standard.specs.Samples.{Context, inPicture, at, sample};
 ghost use Rattle.standard.specs.Calls.{Written};
 ghost use Rattle.planes.specs.Places.{block, row};
-ghost use Rattle.rows.specs.Moves.{scaledBy, movesOf, Room};
+ghost use Rattle.rows.specs.Moves.{scaledBy, movesOf};
 ghost use Rattle.rows.specs.Parts.{Banded};
 ghost use Rattle.samples.specs.Steps.{stepTo, entryOf, Steps, ByOne, Reach};
 ghost use Rattle.samples.specs.Around.{sideOf, rowOf, pickOf, answerOf, answered, isOpen, AllOf, AllOpen, Alike, Differ, Parted, contextFrom, Agrees, pictureAround};
@@ -314,7 +314,7 @@ fn band_line(
     out: &mut [u16],
 )
     requires { ⌜ Lent l (row x0 x1 y) (now plane) (now out) × (x0 < x1) ⌝ }
-    requires { ⌜ Room m × Banded (l .depth) position ⌝ }
+    requires { ⌜ Banded (l .depth) position ⌝ }
     ensures { λ _. ⌜ Written (l .width) (l .height) (row x0 x1 y) (byBand l m position (now (plane .entry))) (now (out .entry)) (now (out .exit)) ⌝ }
 {
     let i = index(l.width, l.height, x0, y);
@@ -335,7 +335,7 @@ fn edge_line(
     out: &mut [u16],
 )
     requires { ⌜ Lent l (row x0 x1 y) (now plane) (now out) × (x0 < x1) ⌝ }
-    requires { ⌜ Room m × Reach l (stepTo a) (row x0 x1 y) × Reach l (stepTo b) (row x0 x1 y) ⌝ }
+    requires { ⌜ Reach l (stepTo a) (row x0 x1 y) × Reach l (stepTo b) (row x0 x1 y) ⌝ }
     ensures { λ _. ⌜ Written (l .width) (l .height) (row x0 x1 y) (compared l m (stepTo a) (stepTo b) (now (plane .entry))) (now (out .entry)) (now (out .exit)) ⌝ }
 {
     let k = x1 - x0;
@@ -370,7 +370,7 @@ fn copy_rows(l: Layout, r: Rectangle, plane: &[u16], out: &mut [u16])
 }
 
 fn band_rows(l: Layout, m: Moves, position: u16, r: Rectangle, plane: &[u16], out: &mut [u16])
-    requires { ⌜ Lent l r (now plane) (now out) × Room m × Banded (l .depth) position ⌝ }
+    requires { ⌜ Lent l r (now plane) (now out) × Banded (l .depth) position ⌝ }
     ensures { λ _. ⌜ Written (l .width) (l .height) r (byBand l m position (now (plane .entry))) (now (out .entry)) (now (out .exit)) ⌝ }
 {
     if r.x0 < r.x1 {
@@ -383,7 +383,7 @@ fn band_rows(l: Layout, m: Moves, position: u16, r: Rectangle, plane: &[u16], ou
 }
 
 fn edge_rows(l: Layout, m: Moves, a: Step, b: Step, r: Rectangle, plane: &[u16], out: &mut [u16])
-    requires { ⌜ Lent l r (now plane) (now out) × Room m × Reach l (stepTo a) r × Reach l (stepTo b) r ⌝ }
+    requires { ⌜ Lent l r (now plane) (now out) × Reach l (stepTo a) r × Reach l (stepTo b) r ⌝ }
     ensures { λ _. ⌜ Written (l .width) (l .height) r (compared l m (stepTo a) (stepTo b) (now (plane .entry))) (now (out .entry)) (now (out .exit)) ⌝ }
 {
     if r.x0 < r.x1 {
@@ -408,7 +408,7 @@ fn edge_part(
     plane: &[u16],
     out: &mut [u16],
 )
-    requires { ⌜ Lent l r (now plane) (now out) × Room m × (whole ≡ true → Reach l (stepTo a) r × Reach l (stepTo b) r) ⌝ }
+    requires { ⌜ Lent l r (now plane) (now out) × (whole ≡ true → Reach l (stepTo a) r × Reach l (stepTo b) r) ⌝ }
     ensures { λ _. ⌜ Written (l .width) (l .height) r (edgeIf whole l m (stepTo a) (stepTo b) (now (plane .entry))) (now (out .entry)) (now (out .exit)) ⌝ }
 {
     if whole {

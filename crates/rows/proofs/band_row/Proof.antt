@@ -1,25 +1,19 @@
 -- The samples before the one looked at are moved by their bands.
 use borrow.Author.Needs.{needs}
 use Prim.Native.Nat.{_≤_, _-_}
-use mathlib.Core.Path.{sym, subst}
 use native.Mathlib.Omega.{arith}
 use lib.ListN.{length, length-set}
 use Rattle.planes.specs.Places.{Filled}
 use Rattle.planes.proofs.Fill.{none-filled, one-filled, all-filled}
-use Rattle.rows.specs.Moves.{Distinct}
 use Rattle.rows.specs.Parts.{bandRow}
-use Rattle.rows.proofs.Keys.{bands-distinct, band-moved}
 use Rattle.rows.proofs.band_row.Statement.{statement}
 use Rattle.rows.proofs.band_row.Tie as tie
 
 abbrev Inv-loop : tie.InvT-loop
-Inv-loop m position depth cur out₀ four i₀ out i = (i ≤ length out) × Filled i (bandRow m depth position cur) out₀ out
+Inv-loop m position depth cur out₀ i₀ out i = (i ≤ length out) × Filled i (bandRow m depth position cur) out₀ out
 
 abbrev μ-loop : tie.MeasureT-loop
-μ-loop m position depth cur out₀ four i₀ out i = length out - i
-
-bands-requires : tie.Need-bands-requires Inv-loop μ-loop
-bands-requires c κs = search needs
+μ-loop m position depth cur out₀ i₀ out i = length out - i
 
 loop-holds : tie.Need-loop-holds Inv-loop μ-loop
 loop-holds c = (omega arith, none-filled)
@@ -31,11 +25,7 @@ shared-slice-read-band-sample : tie.Need-shared-slice-read-band-sample Inv-loop 
 shared-slice-read-band-sample c = search needs
 
 band-sample-requires : tie.Need-band-sample-requires Inv-loop μ-loop
-band-sample-requires c κs =
-    let t = c .before .before .before in
-    let s = t .before .before .before in
-    let b = s .pre .1 in
-    (s .pre .0, subst Distinct (sym (t .bands .ensures)) (bands-distinct (s .args .position) (b .place)), b .least, b .most)
+band-sample-requires c κs = search needs
 
 mul-out : tie.Need-mul-out Inv-loop μ-loop
 mul-out c = search needs
@@ -52,14 +42,7 @@ loop-less c = simp length-set (omega arith)
 loop-again : tie.Need-loop-again Inv-loop μ-loop
 loop-again c =
     let l = c .before .before .before in
-    let t = l .before in
-    let s = t .before .before .before in
-    let a = s .args in (
-      simp length-set (omega arith),
-      one-filled (l .loop .i) _ (omega arith)
-          (band-moved (a .m) (a .depth) (a .position) _ (s .pre .1 .place) (t .bands .ensures) (c .band-sample .ensures))
-          (l .loop .inv .1),
-    )
+    (simp length-set (omega arith), one-filled (l .loop .i) _ (omega arith) (c .band-sample .ensures) (l .loop .inv .1))
 
 same-length : tie.Need-same-length Inv-loop μ-loop
 same-length c = c .before .loop .inv .1 .long
@@ -73,7 +56,6 @@ band-row-spec =
     (tie.spec
     Inv-loop
     μ-loop
-    bands-requires
     loop-holds
     mul-band-sample
     shared-slice-read-band-sample

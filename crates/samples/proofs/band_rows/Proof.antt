@@ -26,7 +26,7 @@ band-line-requires c κs =
     let t = c .before in
     let a = t .before .before in
     let st = a .before .before .before .before .before in
-    ((lent-row (st .pre .0) (a .loop .y) (a .loop .inv .0) (t .if2 .taken) (a .loop .inv .2 .long), a .before .if1 .taken), (st .pre .1, st .pre .2))
+    ((lent-row (st .pre .0) (a .loop .y) (a .loop .inv .0) (t .if2 .taken) (a .loop .inv .2 .long), a .before .if1 .taken), st .pre .1)
 
 add-y : tie.Need-add-y Inv-loop μ-loop
 add-y c =

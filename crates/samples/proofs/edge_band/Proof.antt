@@ -37,7 +37,6 @@ edge-part-requires c κs =
     let n = k .runs-of .result in
     let g = k .runs-of .ensures in (
       lent-part (r .lent) (x .r .x0) (n .c) (x .y0) (x .y1) (g .on) (omega (arith, g .order, g .off)) (st .pre .1 .1) (st .pre .1 .2) refl,
-      r .room,
       part-reach (x .l) (x .o) (x .r) (stepTo (x .a)) (stepTo (x .b)) (block (x .r .x0) (n .c) (x .y0) (x .y1)) _ (first k) (r .first-reaches) (r .second-reaches),
     )
 
@@ -51,7 +50,6 @@ edge-part-requires-2 c κs =
     let n = k .runs-of .result in
     let g = k .runs-of .ensures in (
       lent-part (r .lent) (n .c) (n .d) (x .y0) (x .y1) (g .order) (g .off) (st .pre .1 .1) (st .pre .1 .2) (w1 .edge-part .ensures .long),
-      r .room,
       part-reach (x .l) (x .o) (x .r) (stepTo (x .a)) (stepTo (x .b)) (block (n .c) (n .d) (x .y0) (x .y1)) _ (middle k) (r .first-reaches) (r .second-reaches),
     )
 
@@ -66,7 +64,6 @@ edge-part-requires-3 c κs =
     let n = k .runs-of .result in
     let g = k .runs-of .ensures in (
       lent-part (r .lent) (n .d) (x .r .x1) (x .y0) (x .y1) (g .off) (omega arith) (st .pre .1 .1) (st .pre .1 .2) (w2 .edge-part2 .ensures .long ∙ w1 .edge-part .ensures .long),
-      r .room,
       part-reach (x .l) (x .o) (x .r) (stepTo (x .a)) (stepTo (x .b)) (block (n .d) (x .r .x1) (x .y0) (x .y1)) _ (last k) (r .first-reaches) (r .second-reaches),
     )
 

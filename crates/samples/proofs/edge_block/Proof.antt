@@ -19,7 +19,7 @@ edge-rows-requires c κs =
     let r = st .pre in
     let k = part-reach (x .l) (x .o) (x .r) (stepTo (x .a)) (stepTo (x .b)) (x .r) true (all-open (x .o) (x .r) (stepTo (x .a)) (stepTo (x .b)) (t .before .all-open .ensures (t .if1 .taken)))
     (r .first-reaches) (r .second-reaches) refl in
-    (r .lent, r .room, k .0, k .1)
+    (r .lent, k .0, k .1)
 
 edge-bands-requires : tie.Need-edge-bands-requires
 edge-bands-requires c κs = search needs

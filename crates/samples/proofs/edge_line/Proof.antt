@@ -25,13 +25,13 @@ fit-a : (c : tie.After-place) → let x = c .before .before .before .before .arg
 fit-a c =
     let st = c .before .before .before .before in
     let x = st .args in
-    part-inside (x .l) (stepTo (x .a)) (x .x0) (x .x1) (x .y) (st .pre .0 .1) (st .pre .1 .1) (now (x .plane)) (st .pre .0 .0 .deblocked) _ (c .place .ensures)
+    part-inside (x .l) (stepTo (x .a)) (x .x0) (x .x1) (x .y) (st .pre .0 .1) (st .pre .1 .0) (now (x .plane)) (st .pre .0 .0 .deblocked) _ (c .place .ensures)
 
 fit-b : (c : tie.After-place2) → let x = c .before .before .before .before .before .args in c .place2 .result + (x .x1 - x .x0) ≤ length (now (x .plane))
 fit-b c =
     let st = c .before .before .before .before .before in
     let x = st .args in
-    part-inside (x .l) (stepTo (x .b)) (x .x0) (x .x1) (x .y) (st .pre .0 .1) (st .pre .1 .2) (now (x .plane)) (st .pre .0 .0 .deblocked) _ (c .place2 .ensures)
+    part-inside (x .l) (stepTo (x .b)) (x .x0) (x .x1) (x .y) (st .pre .0 .1) (st .pre .1 .1) (now (x .plane)) (st .pre .0 .0 .deblocked) _ (c .place2 .ensures)
 
 -- no index of the plane is beyond 2^26
 small : (c : tie.Start) → length (now (c .args .plane)) ≤ 67108864
@@ -48,14 +48,14 @@ place-requires c κs =
     let st = c .before .before .before in
     let x = st .args in
     let k = st .pre .0 .0 in
-    ((k .wide, k .high, omega (arith, st .pre .0 .1, k .right, k .wide), omega (arith, k .bottom, k .high)), start-in (x .l) (stepTo (x .a)) (x .x0) (x .x1) (x .y) (st .pre .0 .1) (st .pre .1 .1))
+    ((k .wide, k .high, omega (arith, st .pre .0 .1, k .right, k .wide), omega (arith, k .bottom, k .high)), start-in (x .l) (stepTo (x .a)) (x .x0) (x .x1) (x .y) (st .pre .0 .1) (st .pre .1 .0))
 
 place-requires-2 : tie.Need-place-requires-2
 place-requires-2 c κs =
     let st = c .before .before .before .before in
     let x = st .args in
     let k = st .pre .0 .0 in
-    ((k .wide, k .high, omega (arith, st .pre .0 .1, k .right, k .wide), omega (arith, k .bottom, k .high)), start-in (x .l) (stepTo (x .b)) (x .x0) (x .x1) (x .y) (st .pre .0 .1) (st .pre .1 .2))
+    ((k .wide, k .high, omega (arith, st .pre .0 .1, k .right, k .wide), omega (arith, k .bottom, k .high)), start-in (x .l) (stepTo (x .b)) (x .x0) (x .x1) (x .y) (st .pre .0 .1) (st .pre .1 .1))
 
 add-ie : tie.Need-add-ie
 add-ie c = search needs
@@ -145,8 +145,8 @@ returns c =
     (now (x .out)) _ (k .filtered) (r .edge-row .ensures)
     (λ j h. edge-at (x .m)
     (part-get (x .l .width) (x .l .height) (x .x0) (x .x1) (x .y) i (i + n - i) (st .pre .0 .1) (k .right) (omega (arith, k .bottom)) (t .index .ensures .place) (omega arith) (now (x .plane)) j h)
-    (part-neighbour (x .l) (stepTo (x .a)) (x .x0) (x .x1) (x .y) (st .pre .0 .1) (st .pre .1 .1) (now (x .plane)) (p .place .result) (p .place .result + n - p .place .result) (p .place .ensures) (omega arith) j (omega arith))
-    (part-neighbour (x .l) (stepTo (x .b)) (x .x0) (x .x1) (x .y) (st .pre .0 .1) (st .pre .1 .2) (now (x .plane)) (q .place2 .result) (q .place2 .result + n - q .place2 .result) (q .place2 .ensures) (omega arith) j (omega arith)))
+    (part-neighbour (x .l) (stepTo (x .a)) (x .x0) (x .x1) (x .y) (st .pre .0 .1) (st .pre .1 .0) (now (x .plane)) (p .place .result) (p .place .result + n - p .place .result) (p .place .ensures) (omega arith) j (omega arith))
+    (part-neighbour (x .l) (stepTo (x .b)) (x .x0) (x .x1) (x .y) (st .pre .0 .1) (st .pre .1 .1) (now (x .plane)) (q .place2 .result) (q .place2 .result + n - q .place2 .result) (q .place2 .ensures) (omega arith) j (omega arith)))
 
 pub edge-line-spec : {M : Type 1} → statement M
 edge-line-spec =

@@ -9,8 +9,8 @@ use Rattle.samples.proofs.edge_part.Tie as tie
 edge-rows-requires : tie.Need-edge-rows-requires
 edge-rows-requires c κs =
     let k = c .before .before .before .before .pre in
-    let t = k .2 (c .before .if1 .taken) in
-    (k .0, k .1, t .0, t .1)
+    let t = k .1 (c .before .if1 .taken) in
+    (k .0, t .0, t .1)
 
 copy-rows-requires : tie.Need-copy-rows-requires
 copy-rows-requires c κs = search needs

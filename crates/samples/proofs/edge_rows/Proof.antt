@@ -28,7 +28,7 @@ edge-line-requires c κs =
     let t = c .before in
     let a = t .before .before in
     let st = a .before .before .before .before .before in
-    ((lent-row (st .pre .0) (a .loop .y) (a .loop .inv .0) (t .if2 .taken) (a .loop .inv .2 .long), a .before .if1 .taken), (st .pre .1, reach-row (st .args .l) (stepTo (st .args .a)) (st .args .r) (a .loop .y) (a .loop .inv .0) (t .if2 .taken) (st .pre .2), reach-row (st .args .l) (stepTo (st .args .b)) (st .args .r) (a .loop .y) (a .loop .inv .0) (t .if2 .taken) (st .pre .3)))
+    ((lent-row (st .pre .0) (a .loop .y) (a .loop .inv .0) (t .if2 .taken) (a .loop .inv .2 .long), a .before .if1 .taken), (reach-row (st .args .l) (stepTo (st .args .a)) (st .args .r) (a .loop .y) (a .loop .inv .0) (t .if2 .taken) (st .pre .1), reach-row (st .args .l) (stepTo (st .args .b)) (st .args .r) (a .loop .y) (a .loop .inv .0) (t .if2 .taken) (st .pre .2)))
 
 add-y : tie.Need-add-y Inv-loop μ-loop
 add-y c =

@@ -11,7 +11,7 @@ use Rattle.samples.specs.Steps.{stepTo}
 use Rattle.samples.specs.Blocks.{Legal}
 use Rattle.samples.proofs.Machine.{offsets-back}
 use Rattle.samples.proofs.Tables.{first-of, second-of}
-use Rattle.samples.proofs.Standard.{off-block, band-block, edge-block, room-for, edge-ready}
+use Rattle.samples.proofs.Standard.{off-block, band-block, edge-block, edge-ready}
 use Rattle.samples.proofs.filter_block.Statement.{statement}
 use Rattle.samples.proofs.filter_block.Tie as tie
 
@@ -92,7 +92,6 @@ band-rows-requires c κs =
     let m = c .before in
     let st = m .before .before .before .before .before .before in (
       st .pre .lent,
-      room-for (st .pre) _ (band-moves m),
       record { least = st .pre .least; most = st .pre .most; place = subst Legal (m .before .before .set .given .1) (st .pre .legal) },
     )
 

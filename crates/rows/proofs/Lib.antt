@@ -1,3 +1,4 @@
+pub mod Widths
 pub mod Signs
 pub mod Scales
 pub mod Lows

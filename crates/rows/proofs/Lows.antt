@@ -14,15 +14,7 @@ use mir.Val.{SFits, toZ, ofZ}
 use mir.Facts.{toZ-ofZ, toZ-pos, sfits-widen}
 use Rattle.rows.specs.Moves.{held}
 use Rattle.rows.specs.Sample.{lowOf}
-
--- ---- a number of 16 bits at 32
-
-module _ (z : ℤ) (hz : SFits w16 z) where
-  pub wide-fits : SFits w32 (toZ w16 (ofZ w16 z))
-  wide-fits = subst (λ (v : ℤ). SFits w32 v) (sym (toZ-ofZ hz)) (sfits-widen {w = w16} {w′ = w32} tt hz)
-
-  wide-is : toZ w32 (ofZ w32 (toZ w16 (ofZ w16 z))) ≡ z
-  wide-is = toZ-ofZ wide-fits ∙ toZ-ofZ hz
+use Rattle.rows.proofs.Widths.{back, wide-is, mag-add}
 
 -- ---- less half of the range
 
@@ -102,7 +94,7 @@ module _ (v : ℤ) (hv : SFits w16 v) where
   wide = toZ w32 (ofZ w32 (toZ w16 (ofZ w16 v)))
 
   up-read : wide +ℤ pos 32768 ≡ pos (raised v)
-  up-read = ap (λ (z : ℤ). z +ℤ pos 32768) (wide-is v hv) ∙ raised-is v (hv .sfits)
+  up-read = ap (λ (z : ℤ). z +ℤ pos 32768) (wide-is w32 tt hv) ∙ raised-is v (hv .sfits)
 
   pub up-fits : SFits w32 (wide +ℤ pos 32768)
   up-fits = subst (λ (z : ℤ). SFits w32 z) (sym up-read) (record { sfits = omega (arith, raised-small v (hv .sfits)) })
@@ -120,20 +112,6 @@ module _ (v : ℤ) (hv : SFits w16 v) where
   up-low = low-raised v (hv .sfits) ∙ ap (λ (z : ℤ). lowOf (natAbs z)) (sym up-is)
 
 -- ---- a sample and an offset
-
-mag-add : (a b : ℤ) → mag (a +ℤ b) ≤ mag a + mag b + 1
-mag-add (pos a) (pos b) = omega arith
-mag-add (pos a) (negsuc b) = go (decLt a (suc b))
-  where
-    go : Dec (a < suc b) → mag (pos a +ℤ negsuc b) ≤ a + b + 1
-    go (yes l) = simp (lt-ltb a (suc b) l) (omega arith)
-    go (no m) = let l : suc b ≤ a = omega arith in simp (le-ltb a (suc b) l) (omega arith)
-mag-add (negsuc a) (pos b) = go (decLt b (suc a))
-  where
-    go : Dec (b < suc a) → mag (negsuc a +ℤ pos b) ≤ a + b + 1
-    go (yes l) = simp (lt-ltb b (suc a) l) (omega arith)
-    go (no m) = let l : suc a ≤ b = omega arith in simp (le-ltb b (suc a) l) (omega arith)
-mag-add (negsuc a) (negsuc b) = omega arith
 
 -- the lowering stands at the end of the sum
 low-sum : (s : ℕ) (o : ℤ) → lowOf s +ℤ o ≡ pos s +ℤ o -ℤ pos 32768
@@ -174,7 +152,7 @@ module _ (s : ℕ) {l o : ℤ} (hs : s ≤ 65535) (el : l ≡ lowOf s) (hl : SFi
   sum = toZ w32 (ofZ w32 (toZ w16 (ofZ w16 l))) +ℤ toZ w32 (ofZ w32 (toZ w16 (ofZ w16 o)))
 
   sum-read : sum ≡ l +ℤ o
-  sum-read = ap₂ (λ (x y : ℤ). x +ℤ y) (wide-is l hl) (wide-is o ho)
+  sum-read = ap₂ (λ (x y : ℤ). x +ℤ y) (wide-is w32 tt hl) (wide-is w32 tt ho)
 
   pub sum-fits : SFits w32 sum
   sum-fits = subst (λ (z : ℤ). SFits w32 z) (sym sum-read) (record { sfits = omega (arith, mag-add l o, hl .sfits, ho .sfits) })
@@ -228,15 +206,12 @@ held-small : (z : ℤ) → held 65535 z ≤ 65535
 held-small (pos n) = omega arith
 held-small (negsuc n) = omega arith
 
-abbrev again : ℤ → ℤ
-again z = toZ w16 (ofZ w16 z)
-
-low-back : {x : ℤ} (n : ℕ) → n ≤ 65535 → x ≡ lowOf n → again x ≡ lowOf n
-low-back n h e = ap again e ∙ toZ-ofZ (low-fits n h)
+low-back : {x : ℤ} (n : ℕ) → n ≤ 65535 → x ≡ lowOf n → back x ≡ lowOf n
+low-back n h e = ap back e ∙ toZ-ofZ (low-fits n h)
 
 -- the lesser v of x and y, raised again to r
 pub moved-low : (t r : ℕ) (z : ℤ) {x y v : ℤ} → t ≤ 65535 → x ≡ lowOf (held 65535 z) → y ≡ lowOf t → SFits w16 v
-    → v ≡ cond (ltZ (again x) (again y)) (again x) (again y) → again v ≡ lowOf r → r ≡ held t z
+    → v ≡ cond (ltZ (back x) (back y)) (back x) (back y) → back v ≡ lowOf r → r ≡ held t z
 moved-low t r z h ex ey hv ev er =
     low-inj r (min (held 65535 z) t)
     (sym er ∙ toZ-ofZ hv ∙ ev
@@ -249,5 +224,5 @@ pub lesser-test : {a b : ℤ} {t : Bool} → SFits w16 a → SFits w16 b → ltZ
 lesser-test {a} {b} f g e = ap (λ (t : Bool). cond t a b) (ap₂ ltZ (sym (toZ-ofZ f)) (sym (toZ-ofZ g)) ∙ e)
 
 -- a test of two lowered numbers is the test of the numbers
-pub lowered-test : (a b : ℕ) {x y : ℤ} {t : Bool} → a ≤ 65535 → b ≤ 65535 → x ≡ lowOf a → y ≡ lowOf b → ltZ (again x) (again y) ≡ t → ltb a b ≡ t
+pub lowered-test : (a b : ℕ) {x y : ℤ} {t : Bool} → a ≤ 65535 → b ≤ 65535 → x ≡ lowOf a → y ≡ lowOf b → ltZ (back x) (back y) ≡ t → ltb a b ≡ t
 lowered-test a b ha hb ex ey e = sym (low-lt a b) ∙ ap₂ ltZ (sym (low-back a ha ex)) (sym (low-back b hb ey)) ∙ e

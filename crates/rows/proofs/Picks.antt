@@ -18,7 +18,7 @@ use Rattle.standard.proofs.Tables.{category, category-is-edgeIdx}
 use Rattle.rows.specs.declared.Scaled.{Scaled}
 use Rattle.rows.specs.Moves.{valueOf}
 use Rattle.rows.specs.Sample.{Only, Within}
-use Rattle.rows.proofs.Signs.{back}
+use Rattle.rows.proofs.Widths.{back}
 
 -- one of two is v, and the other 0
 abbrev Two : ℤ → ℤ → ℤ → Type 0

@@ -9,7 +9,8 @@ use lib.IntN.{ℤ, pos, negsuc, negℤ, _*ℤ_}
 use lib.Signed.{mag}
 use mir.Syntax.{w8, w16}
 use mir.Val.{SFits, toZ, ofZ}
-use mir.Facts.{toZ-pos, toZ-ofZ, sfits-widen}
+use mir.Facts.{toZ-pos, toZ-ofZ}
+use Rattle.rows.proofs.Widths.{wide-is}
 
 mag-mul : (z : ℤ) (k : ℕ) → mag (z *ℤ pos k) ≤ (mag z + 1) * k
 mag-mul (pos a) k = mul-le-mul-right k (omega arith)
@@ -26,15 +27,12 @@ module _ (z : ℤ) (k : ℕ) (hz : SFits w8 z) (hk : k ≤ 6) where
   power-small : 2 ^ k ≤ 64
   power-small = pow-mono hk
 
-  pub wide-fits : SFits w16 (toZ w8 (ofZ w8 z))
-  wide-fits = subst (λ (v : ℤ). SFits w16 v) (sym (toZ-ofZ hz)) (sfits-widen {w = w8} {w′ = w16} tt hz)
-
   pub power-fits : SFits w16 (pos ((1 * 2 ^ k) % 65536))
   power-fits = record { sfits = omega (arith, power-is, power-small) }
 
   product-is : toZ w16 (ofZ w16 (toZ w8 (ofZ w8 z))) *ℤ toZ w16 ((1 * 2 ^ k) % 65536) ≡ z *ℤ pos (2 ^ k)
   product-is =
-      ap₂ (λ (a b : ℤ). a *ℤ b) (toZ-ofZ wide-fits ∙ toZ-ofZ hz)
+      ap₂ (λ (a b : ℤ). a *ℤ b) (wide-is w16 tt hz)
       (ap (λ (n : ℕ). toZ w16 n) power-is ∙ toZ-pos w16 (omega (arith, power-small)))
 
   product-small : mag (z *ℤ pos (2 ^ k)) < 2 ^ 15

@@ -7,8 +7,9 @@ use borrow.Author.Tests.{lt-ltb, le-ltb}
 use lib.Dec.{lit<}
 use lib.IntN.{ℤ, pos, negsuc, _+ℤ_, _-ℤ_}
 use mir.Syntax.{w16}
-use mir.Val.{SFits, ofZ, toZ}
+use mir.Val.{SFits}
 use Rattle.standard.specs.Samples.{sign}
+use Rattle.rows.proofs.Widths.{back}
 
 pub sign-lt : (s a : ℕ) → s < a → sign (pos s -ℤ pos a) ≡ negsuc 0
 unfolding sign
@@ -28,10 +29,6 @@ sign-gt (suc s) (suc a) h =
     let le : suc a ≤ suc s = omega arith in
     let e : suc s - suc a ≡ suc (s - suc a) = omega arith in
     simp (le-ltb (suc s) (suc a) le, e)
-
--- the number that the machine reads back of a signed number's bits
-abbrev pub back : ℤ → ℤ
-back z = toZ w16 (ofZ w16 z)
 
 pub sum-fits : (x y : ℤ) → SFits w16 (back (sign x) +ℤ back (sign y))
 unfolding sign

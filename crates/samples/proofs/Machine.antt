@@ -1,41 +1,30 @@
 -- A coordinate and a step, added at 64 bits; and signed numbers handed on.
 use mathlib.Core.Path.{_≡_, refl, sym, ap, ap₂, _∙_, subst}
-use mathlib.Core.Bool.{Bool, true, false, cond}
-use Prim.Native.Nat.{ℕ, zero, suc, _+_, _-_, _^_, _≤_, _<_}
+use Prim.Native.Nat.{ℕ, zero, suc, _^_, _≤_, _<_}
 use native.Mathlib.Omega.{arith}
 use borrow.Author.Needs.{sfits-of}
-use lib.Dec.{T, ltb}
+use lib.Dec.{T}
 use lib.IntN.{ℤ, pos, negsuc, natAbs, _+ℤ_}
 use lib.Signed.{mag, nonNeg}
 use mir.Syntax.{w8, w32, w64}
 use mir.Val.{Fits, SFits, toZ, ofZ}
-use mir.Facts.{toZ-pos, toZ-ofZ, sfits-widen}
+use mir.Facts.{toZ-pos, toZ-ofZ}
 use Rattle.standard.specs.Sets.{NotNegative}
 use Rattle.rows.specs.Moves.{scaledBy}
-
-mag-sub : (t : Bool) (a b : ℕ) → ltb a b ≡ t → mag (cond t (negsuc (b - suc a)) (pos (a - b))) ≤ a + b
-mag-sub true a b e = omega arith
-mag-sub false a b e = omega arith
-
-mag-add : (s : ℕ) (z : ℤ) → mag (pos s +ℤ z) ≤ s + mag z + 1
-mag-add s (pos n) = omega arith
-mag-add s (negsuc n) = omega (arith, mag-sub (ltb s (suc n)) s (suc n) refl)
+use Rattle.rows.proofs.Widths.{wide-is, mag-add}
 
 not-below : (z : ℤ) → NotNegative z → mag z < 2 ^ 63 → T (nonNeg z) × Fits w64 (natAbs z)
 not-below (pos n) t h = (tt, omega arith)
 not-below (negsuc n) t h = absurd t
 
 module _ (v : ℕ) (d : ℤ) (hv : v ≤ 8192) (hd : SFits w32 d) where
-  pub wide-fits : SFits w64 (toZ w32 (ofZ w32 d))
-  wide-fits = subst (λ (z : ℤ). SFits w64 z) (sym (toZ-ofZ hd)) (sfits-widen {w = w32} {w′ = w64} tt hd)
-
   sum-is : toZ w64 v +ℤ toZ w64 (ofZ w64 (toZ w32 (ofZ w32 d))) ≡ pos v +ℤ d
   sum-is =
       let lo : v < 2 ^ 63 = omega arith in
-      ap₂ (λ (a b : ℤ). a +ℤ b) (toZ-pos w64 lo) (toZ-ofZ wide-fits ∙ toZ-ofZ hd)
+      ap₂ (λ (a b : ℤ). a +ℤ b) (toZ-pos w64 lo) (wide-is w64 tt hd)
 
   sum-mag : mag (pos v +ℤ d) < 2 ^ 63
-  sum-mag = omega (arith, mag-add v d, hd .sfits)
+  sum-mag = omega (arith, mag-add (pos v) d, hd .sfits)
 
   pub sum-fits : SFits w64 (toZ w64 v +ℤ toZ w64 (ofZ w64 (toZ w32 (ofZ w32 d))))
   sum-fits = record { sfits = subst (λ (z : ℤ). mag z < 2 ^ 63) (sym sum-is) sum-mag }

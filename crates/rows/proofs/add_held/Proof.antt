@@ -1,7 +1,9 @@
 -- Below 16 bits, above them or within, the sum at 32 bits is held as it should be.
 use native.Mathlib.Omega.{arith}
+use mir.Syntax.{w16}
 use borrow.Author.Needs.{needs, sfits-of}
-use Rattle.rows.proofs.Lows.{wide-fits, sum-fits, sum-under, sum-over, sum-narrow, sum-within}
+use Rattle.rows.proofs.Widths.{wide-fits}
+use Rattle.rows.proofs.Lows.{sum-fits, sum-under, sum-over, sum-narrow, sum-within}
 use Rattle.rows.proofs.add_held.Statement.{statement}
 use Rattle.rows.proofs.add_held.Tie as tie
 
@@ -9,10 +11,10 @@ lowered-requires : tie.Need-lowered-requires
 lowered-requires c κs = search needs
 
 cast-v : tie.Need-cast-v
-cast-v c = wide-fits (c .lowered .result) (sfits-of (c .lowered .ok))
+cast-v c = wide-fits _ tt (sfits-of {w = w16} {z = c .lowered .result} (c .lowered .ok))
 
 cast-v-2 : tie.Need-cast-v-2
-cast-v-2 c = wide-fits _ (c .before .fits .o)
+cast-v-2 c = wide-fits _ tt (c .before .fits .o)
 
 add-v : tie.Need-add-v
 add-v c = sum-fits (c .before .args .s) (omega arith) (c .lowered .ensures) (sfits-of (c .lowered .ok)) (c .before .fits .o)

@@ -1,10 +1,11 @@
 -- The sum fits 32 bits, and 16 unsigned ones.
-use Rattle.rows.proofs.Lows.{wide-fits, up-fits, up-positive, up-small, up-low}
+use Rattle.rows.proofs.Widths.{wide-fits}
+use Rattle.rows.proofs.Lows.{up-fits, up-positive, up-small, up-low}
 use Rattle.rows.proofs.restored.Statement.{statement}
 use Rattle.rows.proofs.restored.Tie as tie
 
 cast-result : tie.Need-cast-result
-cast-result c = wide-fits _ (c .fits .v)
+cast-result c = wide-fits _ tt (c .fits .v)
 
 add-result : tie.Need-add-result
 add-result c = up-fits _ (c .fits .v)

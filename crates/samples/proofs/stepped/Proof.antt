@@ -1,7 +1,8 @@
 -- A sum that is not negative is its own magnitude.
 use mathlib.Core.Path.{ap}
 use lib.IntN.{natAbs}
-use Rattle.samples.proofs.Machine.{wide-fits, sum-fits, sum-back, sum-natural}
+use Rattle.rows.proofs.Widths.{wide-fits}
+use Rattle.samples.proofs.Machine.{sum-fits, sum-back, sum-natural}
 use borrow.Author.Needs.{needs}
 use Rattle.samples.proofs.stepped.Statement.{statement}
 use Rattle.samples.proofs.stepped.Tie as tie
@@ -10,7 +11,7 @@ cast-result : tie.Need-cast-result
 cast-result c = search needs
 
 cast-result-2 : tie.Need-cast-result-2
-cast-result-2 c = wide-fits _ _ (c .pre .0) (c .fits .d)
+cast-result-2 c = wide-fits _ tt (c .fits .d)
 
 add-result : tie.Need-add-result
 add-result c = sum-fits _ _ (c .pre .0) (c .fits .d)

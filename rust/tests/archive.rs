@@ -1,27 +1,18 @@
 //! `tools/archive` as it is run, with a toolchain that only says what the real one says.
 
 mod folders;
+mod programs;
 
+use programs::{program, turn};
 use std::fs;
-use std::os::unix::fs::PermissionsExt;
 use std::path::{Path, PathBuf};
 use std::process::Command;
-use std::sync::{Mutex, MutexGuard, PoisonError};
-
-/// A test has this while it runs. A program that is just being written cannot be run, and a process that another test
-/// starts meanwhile would hold it open.
-static TURN: Mutex<()> = Mutex::new(());
-
-fn turn() -> MutexGuard<'static, ()> {
-    TURN.lock().unwrap_or_else(PoisonError::into_inner)
-}
 
 /// Three crates below `top`, and one beside it.
 const CRATES: &str = "# a list\nlow:\nleft: low\nright: low\nbeside: low\n\ntop: left right\n";
 
 /// The real one prints a line for each function, and a line for each crate. The first crate was proved before.
-const TOOLCHAIN: &str = r#"#!/bin/sh
-case "$1" in
+const TOOLCHAIN: &str = r#"case "$1" in
 version) echo "the kit" ;;
 check)
   echo "rt: low proved (unchanged since it was last proved)"
@@ -39,13 +30,7 @@ staticlib)
   echo "the archive is there"
   exit "${STATICLIB_ENDS:-0}"
   ;;
-esac
-"#;
-
-fn program(place: &Path, text: &str) {
-    fs::write(place, text).expect("a program for the test");
-    fs::set_permissions(place, fs::Permissions::from_mode(0o755)).expect("a program that runs");
-}
+esac"#;
 
 /// A project of the test's own with the real script in it.
 fn project(name: &str) -> PathBuf {
@@ -60,7 +45,7 @@ fn project(name: &str) -> PathBuf {
     fs::write(project.join("crates.txt"), CRATES).expect("a list of crates");
     program(&project.join("bin/rt"), TOOLCHAIN);
     // The archive of another machine is made with the real toolchain's compiler.
-    program(&project.join("bin/uname"), "#!/bin/sh\necho x86_64\n");
+    program(&project.join("bin/uname"), "echo x86_64");
     project
 }
 

@@ -2,24 +2,19 @@
 //! from elsewhere, which they pass over.
 
 mod folders;
+mod programs;
 mod shell;
 
+use programs::{program, turn};
 use shell::{Ran, ran};
 use std::fs;
-use std::os::unix::fs::PermissionsExt;
 use std::path::{Path, PathBuf};
 use std::process::{Command, Stdio};
-
-/// A program of one line.
-fn tool(path: &Path, line: &str) {
-    fs::write(path, format!("#!/bin/sh\n{line}\n")).expect("a tool");
-    fs::set_permissions(path, fs::Permissions::from_mode(0o755)).expect("a tool that is run");
-}
 
 /// A search path on which nothing can be built: its `rt` and `cargo` fail.
 fn without_tools(name: &str) -> String {
     let folder = folders::empty(name);
-    ["rt", "cargo"].iter().for_each(|name| tool(&folder.join(name), "exit 1"));
+    ["rt", "cargo"].iter().for_each(|name| program(&folder.join(name), "exit 1"));
     format!("{}:{}", folder.display(), std::env::var("PATH").expect("a search path"))
 }
 
@@ -31,6 +26,7 @@ fn script(name: &str, words: &[&str], path: &str) -> Ran {
 
 #[test]
 fn words_that_a_script_does_not_take_are_refused_at_once() {
+    let _turn = turn();
     let lines: [(&str, &[&str]); 11] = [
         ("run", &["--sed", "7"]),
         ("run", &["--seed"]),
@@ -57,15 +53,16 @@ fn stand_in(name: &str) -> (PathBuf, String) {
     let folder = folders::empty(&format!("scripts-{name}"));
     fs::copy(Path::new(env!("CARGO_MANIFEST_DIR")).join("..").join(name), folder.join(name)).expect("the script");
     fs::create_dir(folder.join("tools")).expect("a folder for the tools");
-    tool(&folder.join("tools/archive"), "exit 0");
-    tool(&folder.join("tools/rt"), "echo '1 passed, 0 failed'");
-    tool(&folder.join("tools/cargo"), "echo \"archive: ${STEAMGUSSET_ARCHIVE_DIR-proved here}\" >&2");
+    program(&folder.join("tools/archive"), "exit 0");
+    program(&folder.join("tools/rt"), "echo '1 passed, 0 failed'");
+    program(&folder.join("tools/cargo"), "echo \"archive: ${STEAMGUSSET_ARCHIVE_DIR-proved here}\" >&2");
     let path = format!("{}:{}", folder.join("tools").display(), std::env::var("PATH").expect("a search path"));
     (folder.join(name), path)
 }
 
 #[test]
 fn what_is_shown_and_tested_is_what_is_proved_here() {
+    let _turn = turn();
     for (name, times) in [("run", 1), ("test", 3)] {
         let (script, path) = stand_in(name);
         let (_, _, said) = ran(Command::new(script).env("PATH", path).env("STEAMGUSSET_ARCHIVE_DIR", "/elsewhere"));
@@ -76,6 +73,7 @@ fn what_is_shown_and_tested_is_what_is_proved_here() {
 
 #[test]
 fn every_script_has_a_help() {
+    let _turn = turn();
     let path = without_tools("scripts-help");
     for name in ["run", "test", "tools/archive", "tools/install", "bench/run", "bench/stack"] {
         for word in ["--help", "-h"] {

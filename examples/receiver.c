@@ -142,7 +142,8 @@ struct stream {
 #define BAND(position, a, b, c, d) 1, position, 128 + (a), 128 + (b), 128 + (c), 128 + (d)
 #define EDGE(direction, a, b, c, d) 2, direction, 128 + (a), 128 + (b), 128 + (c), 128 + (d)
 
-/* Every type and class, bands that wrap, the largest magnitude; two sets that a merge can copy, left and up. */
+/* Every type and class, bands that wrap, the largest magnitude, 31 at luma's depth of 10 and 7 at chroma's of 8; two
+ * sets that a merge can copy, left and up. */
 static const uint8_t CHOSEN[SETS][SG_SET_BYTES] = {
     {EDGE(0, 9, 4, -4, -9), BAND(10, 7, -7, 3, -3), BAND(12, 1, 2, -2, -1)},
     {EDGE(0, 9, 4, -4, -9), BAND(10, 7, -7, 3, -3), BAND(12, 1, 2, -2, -1)},
@@ -150,8 +151,8 @@ static const uint8_t CHOSEN[SETS][SG_SET_BYTES] = {
     {OFF, OFF, OFF},
     {EDGE(0, 9, 4, -4, -9), BAND(10, 7, -7, 3, -3), BAND(12, 1, 2, -2, -1)},
     {EDGE(1, 31, 31, -31, -31), OFF, OFF},
-    {EDGE(2, 6, 0, 0, -6), EDGE(3, 2, 2, -2, -2), EDGE(3, 31, 0, -1, -31)},
-    {EDGE(3, 1, 2, -3, -4), BAND(0, -31, -31, -31, -31), BAND(31, 31, 31, 31, 31)},
+    {EDGE(2, 6, 0, 0, -6), EDGE(3, 2, 2, -2, -2), EDGE(3, 7, 0, -1, -7)},
+    {EDGE(3, 1, 2, -3, -4), BAND(0, -7, -7, -7, -7), BAND(31, 7, 7, 7, 7)},
 };
 
 /* The encoder's side has a state and a table of its own: the reader makes its table from the bins alone. */
@@ -175,7 +176,7 @@ static uint32_t drawn(uint32_t *seed, uint32_t below)
     return (*seed >> 8) % below;
 }
 
-/* A gradient from black to white with noise on it. */
+/* A gradient from black to white with noise on it, over the range of a component's depth. */
 static uint16_t *gradient(size_t width, size_t height, uint32_t depth, uint32_t *seed)
 {
     uint16_t *plane = room_for_samples(width * height);
@@ -189,9 +190,10 @@ static uint16_t *gradient(size_t width, size_t height, uint32_t depth, uint32_t 
 
 static void make(struct stream *s, const sg_state *description, const sg_picture_sizes *sizes, uint32_t *seed)
 {
+    const uint32_t depths[COMPONENTS] = {description->luma_depth, description->chroma_depth, description->chroma_depth};
     encode(s, description);
     for (int i = 0; i < COMPONENTS; i++)
-        s->planes[i] = gradient(sizes->width[i], sizes->height[i], description->depth, seed);
+        s->planes[i] = gradient(sizes->width[i], sizes->height[i], depths[i], seed);
 }
 
 /* ---- the receiver */
@@ -412,8 +414,8 @@ static void print_figures(const struct receiver *r, const struct stream *s)
     uint64_t sum = NOTHING_SUMMED;
     for (int i = 0; i < COMPONENTS; i++)
         sum = plane_summed(sum, r->reference[i], r->stored[i].samples);
-    printf("picture: %" PRIu32 "x%" PRIu32 ", CTB size %" PRIu32 ", depth %" PRIu32 "\n", d->width, d->height, d->ctb,
-           d->depth);
+    printf("picture: %" PRIu32 "x%" PRIu32 ", CTB size %" PRIu32 ", luma depth %" PRIu32 ", chroma depth %" PRIu32 "\n",
+           d->width, d->height, d->ctb, d->luma_depth, d->chroma_depth);
     printf("sets: %" PRIu32 "\n", d->next);
     print_count("bins", r->bins);
     print_count("blocks", r->filtered);
@@ -447,7 +449,8 @@ static void print_refusal(const struct picture *p, uint64_t before, uint32_t ans
     printf("refused %" PRIu32 ": %s; nothing changed\n", answer, sg_reason(answer));
 }
 
-/* One monochrome CTB: the chroma planes are NULL with length 0, format and chroma's switch are 0. */
+/* One monochrome CTB: the chroma planes are NULL with length 0, format and chroma's switch are 0, and chroma's depth is
+ * luma's. */
 static sg_state described_small(void)
 {
     sg_state d;
@@ -455,7 +458,8 @@ static sg_state described_small(void)
     d.width = 8;
     d.height = 8;
     d.ctb = 16;
-    d.depth = 8;
+    d.luma_depth = 8;
+    d.chroma_depth = 8;
     d.luma = 1;
     return d;
 }
@@ -503,7 +507,8 @@ static void save(const char *path, const struct receiver *r, const struct stream
 
 /* ---- all of it */
 
-/* Neither side is a multiple of 64, so the last column and the last row of CTBs are cut short. */
+/* Neither side is a multiple of 64, so the last column and the last row of CTBs are cut short. Luma and chroma have a
+ * depth each. */
 static sg_state described(void)
 {
     sg_state d;
@@ -512,7 +517,8 @@ static sg_state described(void)
     d.height = 120;
     d.ctb = 64;
     d.format = SG_FORMAT_420;
-    d.depth = 10;
+    d.luma_depth = 10;
+    d.chroma_depth = 8;
     d.luma = 1;
     d.chroma = 1;
     return d;

@@ -10,8 +10,7 @@
  * - several slices; one slice may have any number of segments
  * - tiles
  * - lossless units, and PCM units whose loop filtering is disabled: they keep their samples
- * - luma and chroma of different depths
- * - above 10 bits, offsets sent with a scale (log2_sao_offset_scale) other than depth minus 10
+ * - above 10 bits, offsets sent with a scale (log2_sao_offset_scale) other than the component's depth minus 10
  *
  * No call can see them: such a picture is accepted and comes out wrong.
  *
@@ -32,7 +31,8 @@
  *     state.height = 120;
  *     state.ctb = 64;
  *     state.format = SG_FORMAT_420;
- *     state.depth = 10;
+ *     state.luma_depth = 10;
+ *     state.chroma_depth = 8;                              luma and chroma may differ
  *     state.luma = 1;
  *     state.chroma = 1;
  *     sg_picture_sizes sizes;
@@ -84,13 +84,13 @@
  *
  * Between two calls, everything. A call goes by what it is handed, whoever wrote it, and ends well. Of what it uses it
  * refuses as SG_STORED what no accepted call leaves: a next CTU above the CTU count, a mark above 2, an entry of the
- * table that is no set within the rules, a deblocked sample above 2^depth - 1. An accepted sg_filter gives the
- * standard's samples for the set and the deblocked samples that stand there at that time.
+ * table that is no set within the rules, a deblocked sample above 2^depth - 1 by its component's depth. An accepted
+ * sg_filter gives the standard's samples for the set and the deblocked samples that stand there at that time.
  *
  * Blocks are best delivered by sg_deliver, which checks them. A decoder that deblocks within the deblocked planes may
- * do without: when a CTB's samples are final, none above 2^depth - 1, it sets the CTB's mark, which is
- * marks[component * sizes.ctus + ctb], from 0 to 1. That leaves what sg_deliver leaves. The samples of a CTB whose mark
- * is 0 are never used.
+ * do without: when a CTB's samples are final, none above 2^depth - 1 by its component's depth, it sets the CTB's mark,
+ * which is marks[component * sizes.ctus + ctb], from 0 to 1. That leaves what sg_deliver leaves. The samples of a CTB
+ * whose mark is 0 are never used.
  *
  * That every order gives the same picture is promised where state, marks, table and deblocked planes change by accepted
  * calls, or as an accepted call would change them. After any other write it is the caller who sees to that: a deblocked
@@ -111,8 +111,8 @@ extern "C" {
 
 /* The version of this header. The major number grows when what crosses changes so that a caller compiled before would
  * be wrong, the minor number when something is added. */
-#define SG_VERSION_MAJOR 4
-#define SG_VERSION_MINOR 1
+#define SG_VERSION_MAJOR 5
+#define SG_VERSION_MINOR 0
 #define SG_VERSION (SG_VERSION_MAJOR * 65536 + SG_VERSION_MINOR)
 
 /* The version of the archive, put together as SG_VERSION is. Header and archive fit if their major numbers are equal
@@ -183,14 +183,15 @@ enum sg_format {
  * open, read and write keep next, which stands last. Numbers outside the ranges given here break a rule:
  * SG_DESCRIPTION, before every other reason. */
 typedef struct sg_state {
-    uint32_t width;  /* in luma samples: a multiple of 8, from 8 to 8192 */
-    uint32_t height; /* likewise */
-    uint32_t ctb;    /* CTB size in luma samples: 16, 32 or 64 */
-    uint32_t format; /* chroma_format_idc, 0 to 3: enum sg_format */
-    uint32_t depth;  /* bit depth of all components: 8 to 16 */
-    uint32_t luma;   /* slice_sao_luma_flag: 0 or 1 */
-    uint32_t chroma; /* slice_sao_chroma_flag: 0 or 1; 0 in monochrome */
-    uint32_t next;   /* the number of the next CTU to be read or written; all are in when it is the CTU count */
+    uint32_t width;        /* in luma samples: a multiple of 8, from 8 to 8192 */
+    uint32_t height;       /* likewise */
+    uint32_t ctb;          /* CTB size in luma samples: 16, 32 or 64 */
+    uint32_t format;       /* chroma_format_idc, 0 to 3: enum sg_format */
+    uint32_t luma_depth;   /* bit depth of luma, BitDepthY: 8 to 16 */
+    uint32_t chroma_depth; /* bit depth of Cb and Cr, BitDepthC: 8 to 16; in monochrome the same as luma_depth */
+    uint32_t luma;         /* slice_sao_luma_flag: 0 or 1 */
+    uint32_t chroma;       /* slice_sao_chroma_flag: 0 or 1; 0 in monochrome */
+    uint32_t next;         /* the number of the next CTU to be read or written; all are in when it is the CTU count */
 } sg_state;
 
 /* What a description asks the caller to lend, by sg_sizes. Arrays go by component: 0 luma, 1 Cb, 2 Cr. A component that
@@ -233,8 +234,8 @@ typedef struct sg_rows {
  *
  * Position is 0 to 31. Class is 0 to 3: neighbours left and right, above and below, upper left and lower right, upper
  * right and lower left. Offsets o1 to o4 are as coded, before they are scaled to the depth. Their magnitude is at most
- * 7 at depth 8, 15 at depth 9 and 31 above; for edge o1 and o2 are not negative, o3 and o4 not positive. Cr has Cb's
- * type and class. A component whose switch is off, or that is absent, is off.
+ * 7 at depth 8, 15 at depth 9 and 31 above, by the depth of the component; for edge o1 and o2 are not negative, o3 and
+ * o4 not positive. Cr has Cb's type and class. A component whose switch is off, or that is absent, is off.
  *
  * Edge of class 2 with offsets 1, 0, 0, -2 for luma alone: 02 02 81 80 80 7E, and twelve bytes 00. */
 #define SG_SET_BYTES 18
@@ -243,7 +244,8 @@ typedef struct sg_rows {
 #define SG_ENTRY_BYTES SG_SET_BYTES
 
 /* Room for the bins of any CTU. Two merge flags, luma 135, Cb 135 and Cr 133 are 405 bins at most: for a component 2
- * for the type (not Cr), four magnitudes of 31, four signs and 5 for the position. */
+ * for the type (not Cr), four magnitudes of 31, four signs and 5 for the position. So many there are where both depths
+ * are at least 10: a magnitude is 7 at most at depth 8, and 15 at depth 9. */
 #define SG_BINS_BYTES 51
 
 /* The layout that the archive was compiled for: a compiler that lays out otherwise stops here. To the archive the state
@@ -367,7 +369,7 @@ uint32_t sg_write(sg_state *state, const uint8_t set[SG_SET_BYTES], uint8_t *out
  *   SG_LENGTH             of the samples
  *   SG_STORED             the CTB's mark is above 2
  *   SG_DELIVERED_BEFORE   the CTB's mark is 1 or 2
- *   SG_SAMPLE_TOO_LARGE   a sample exceeds 2^depth - 1
+ *   SG_SAMPLE_TOO_LARGE   a sample exceeds 2^depth - 1, by the component's depth
  */
 uint32_t sg_deliver(const sg_state *state, uint32_t component, uint32_t ctb, const uint16_t *samples,
                     size_t samples_length, uint16_t *y, size_t y_length, uint16_t *cb, size_t cb_length, uint16_t *cr,
@@ -397,7 +399,7 @@ uint32_t sg_deliver(const sg_state *state, uint32_t component, uint32_t ctb, con
  *   SG_FILTERED_BEFORE    the CTB's mark is 2
  *   SG_NOT_READY          the CTU's set is not in, or the CTB or a neighbour is not delivered
  *   SG_STORED             the table's entry of the CTU is no set within the rules
- *   SG_STORED             a deblocked sample of the CTB, or next to it, exceeds 2^depth - 1
+ *   SG_STORED             a deblocked sample of the CTB, or next to it, exceeds 2^depth - 1, by the component's depth
  */
 uint32_t sg_filter(const sg_state *state, uint32_t component, uint32_t ctb, const uint16_t *y, size_t y_length,
                    const uint16_t *cb, size_t cb_length, const uint16_t *cr, size_t cr_length, uint16_t *out_y,

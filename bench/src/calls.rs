@@ -20,7 +20,8 @@ pub fn all(patience: Patience, out: &mut dyn Write) -> Done {
 }
 
 fn picture(width: u32, height: u32, ctb: u32) -> Picture {
-    Picture { width, height, ctb, format: ChromaFormat::Chroma420, depth: 10, luma: true, chroma: true }
+    let format = ChromaFormat::Chroma420;
+    Picture { width, height, ctb, format, luma_depth: 10, chroma_depth: 10, luma: true, chroma: true }
 }
 
 // ---- by the sample

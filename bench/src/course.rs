@@ -67,7 +67,7 @@ pub struct Course {
     bins: Vec<Bins>,
     /// Luma, Cb and Cr of a CTU follow one another, as a decoder finishes them.
     parts: Vec<Part>,
-    /// Random samples within the depth, block after block.
+    /// Random samples within the component's depth, block after block.
     packed: Vec<u16>,
     deblocked: [Plane; 3],
     filtered: [Plane; 3],
@@ -91,13 +91,14 @@ impl Course {
         let sizes = picture.sizes()?;
         let parts = parts(picture, sizes)?;
         let planes = || sizes.samples.map(|length| Plane::new(length, bytes_after_line));
+        let packed = random(&picture, &parts);
         let mut course = Course {
             state: picture.state(),
             sizes,
             sets: (0..sizes.ctus).map(|ctu| set_of(ctu % sizes.columns, ctu / sizes.columns)).collect(),
             bins: vec![Bins([0; BINS_BYTES], 0); sizes.ctus],
             parts,
-            packed: random(sizes.samples.iter().sum(), picture.depth),
+            packed,
             deblocked: planes(),
             filtered: planes(),
             marks: vec![0; sizes.marks],
@@ -158,8 +159,7 @@ impl Course {
     pub fn deliver_plain(&mut self) -> Result<Laps, Refusal> {
         laps(&self.parts, |part| {
             let (samples, plane) = (&self.packed[part.packed.clone()], &mut self.deblocked[part.component]);
-            let taken =
-                plain_c::deliver(layout(&self.sizes, self.state.depth, part.component), samples, part.block, plane);
+            let taken = plain_c::deliver(layout(&self.sizes, &self.state, part.component), samples, part.block, plane);
             if taken { Ok(()) } else { Err(Refusal::SampleTooLarge) }
         })
     }
@@ -212,7 +212,7 @@ impl Course {
         laps(&self.parts, |part| {
             let set = component(&self.sets[part.ctb as usize], part.component);
             let (plane, out) = (&self.deblocked[part.component], &mut self.filtered[part.component]);
-            block(layout(&self.sizes, self.state.depth, part.component), set, part.block, plane, out);
+            block(layout(&self.sizes, &self.state, part.component), set, part.block, plane, out);
             Ok(())
         })
     }
@@ -267,7 +267,7 @@ impl Course {
     pub fn scan(&mut self) -> Result<Scan, Mistake> {
         self.marks.fill(1);
         let parts: Vec<Part> = self.parts.iter().filter(|part| self.is_apart(part.ctb as usize)).cloned().collect();
-        let seen = |part: &Part| grown(layout(&self.sizes, self.state.depth, part.component), part.block);
+        let seen = |part: &Part| grown(layout(&self.sizes, &self.state, part.component), part.block);
         let samples = parts.iter().map(|part| seen(part).samples()).sum();
         let last = |part: &Part| (seen(part).y1 - 1) * self.sizes.width[part.component] + seen(part).x1 - 1;
         let places: Vec<(usize, usize)> = parts.iter().map(|part| (part.component, last(part))).collect();
@@ -340,7 +340,8 @@ fn grown(layout: Layout, block: Block) -> Block {
     }
 }
 
-fn layout(sizes: &Sizes, depth: u32, component: usize) -> Layout {
+fn layout(sizes: &Sizes, state: &State, component: usize) -> Layout {
+    let depth = [state.luma_depth, state.chroma_depth, state.chroma_depth][component];
     Layout { width: sizes.width[component], height: sizes.height[component], depth }
 }
 
@@ -348,16 +349,17 @@ fn component(set: &CtuSet, number: usize) -> Offsets {
     [set.luma, set.cb, set.cr][number]
 }
 
-/// Random samples within a depth, the same in every run (xorshift).
-fn random(count: usize, depth: u8) -> Vec<u16> {
+/// Random samples of the blocks, each within its component's depth, the same in every run (xorshift).
+fn random(picture: &Picture, parts: &[Part]) -> Vec<u16> {
     let mut state = 2_463_534_242u32;
-    let mut next = || {
+    let mut next = |depth: u8| {
         state ^= state << 13;
         state ^= state >> 17;
         state ^= state << 5;
         (state >> 16) as u16 >> (16 - depth)
     };
-    (0..count).map(|_| next()).collect()
+    let depths = parts.iter().flat_map(|part| part.packed.clone().map(|_| picture.depth(part.component as u32)));
+    depths.map(&mut next).collect()
 }
 
 #[cfg(test)]
@@ -371,14 +373,15 @@ mod tests {
         let sizes = [(8, 8), (72, 40), (200, 136)];
         let pictures = [16, 32, 64].into_iter().flat_map(move |ctb| sizes.map(|size| (ctb, size)));
         let kinds = [
-            (8, ChromaFormat::Chroma420),
-            (10, ChromaFormat::Chroma420),
-            (10, ChromaFormat::Chroma422),
-            (15, ChromaFormat::Chroma444),
+            (8, 8, ChromaFormat::Chroma420),
+            (10, 8, ChromaFormat::Chroma420),
+            (10, 10, ChromaFormat::Chroma422),
+            (9, 15, ChromaFormat::Chroma444),
         ];
         pictures.flat_map(move |(ctb, (width, height))| {
-            kinds.map(|(depth, format)| {
-                let picture = Picture { width, height, ctb, format, depth, luma: true, chroma: true };
+            kinds.map(|(luma_depth, chroma_depth, format)| {
+                let (luma, chroma) = (true, true);
+                let picture = Picture { width, height, ctb, format, luma_depth, chroma_depth, luma, chroma };
                 Course::new(picture, mixed).unwrap_or_else(|refusal| panic!("{picture:?} was {refusal}"))
             })
         })

@@ -42,10 +42,10 @@ static KINDS: [Kind; 6] = [
     edge("edge 3", 3),
 ];
 
-/// Full HD; chroma is filtered where there is any.
+/// Full HD with one depth; chroma is filtered where there is any.
 fn picture(ctb: u32, depth: u8, format: ChromaFormat) -> Picture {
     let chroma = format != ChromaFormat::Monochrome;
-    Picture { width: 1920, height: 1080, ctb, format, depth, luma: true, chroma }
+    Picture { width: 1920, height: 1080, ctb, format, luma_depth: depth, chroma_depth: depth, luma: true, chroma }
 }
 
 /// The set of a CTU with chroma if every kind takes its turn. No CTU has the set of its left or upper neighbour.
@@ -65,7 +65,7 @@ pub fn depths(patience: Patience, out: &mut dyn Write) -> Done {
         [("Luma alone (monochrome)", ChromaFormat::Monochrome), ("A whole picture (4:2:0)", ChromaFormat::Chroma420)]
     {
         let pictures = [8, 10, 16].map(|depth| picture(64, depth, format));
-        let table = judged("bits", patience, pictures, |picture| picture.depth.to_string())?;
+        let table = judged("bits", patience, pictures, |picture| picture.luma_depth.to_string())?;
         writeln!(out, "### {name}\n\n{table}")?;
     }
     Ok(())

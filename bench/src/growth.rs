@@ -56,9 +56,12 @@ pub fn all(patience: Patience, out: &mut dyn Write) -> Done {
     Ok(())
 }
 
-fn courses() -> Result<Vec<Course>, Mistake> {
+fn picture((width, height): (u32, u32)) -> Picture {
     let format = ChromaFormat::Chroma420;
-    let picture = |(width, height)| Picture { width, height, ctb: 64, format, depth: 10, luma: true, chroma: true };
+    Picture { width, height, ctb: 64, format, luma_depth: 10, chroma_depth: 10, luma: true, chroma: true }
+}
+
+fn courses() -> Result<Vec<Course>, Mistake> {
     SIZES.map(picture).into_iter().map(|picture| Ok(Course::new(picture, mixed)?)).collect()
 }
 

@@ -146,8 +146,8 @@ impl Buffers {
     /// ```
     /// use steamgusset::{Buffers, ChromaFormat, Picture, Refusal, Stage};
     ///
-    /// let format = ChromaFormat::Monochrome;
-    /// let picture = Picture { width: 8, height: 8, ctb: 16, format, depth: 8, luma: true, chroma: false };
+    /// let (format, luma, chroma) = (ChromaFormat::Monochrome, true, false);
+    /// let picture = Picture { width: 8, height: 8, ctb: 16, format, luma_depth: 8, chroma_depth: 8, luma, chroma };
     /// let mut buffers = Buffers::zeros(&picture.sizes()?);
     /// let mut stage = Stage::open_lent(picture, buffers.lend())?;
     /// stage.deliver(0, 0, &[9; 64])?;

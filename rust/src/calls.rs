@@ -8,8 +8,8 @@
 //! ```
 //! use steamgusset::{BINS_BYTES, ChromaFormat, CtuSet, Picture, Refusal, calls};
 //!
-//! let format = ChromaFormat::Monochrome;
-//! let picture = Picture { width: 16, height: 8, ctb: 16, format, depth: 8, luma: true, chroma: false };
+//! let (format, luma, chroma) = (ChromaFormat::Monochrome, true, false);
+//! let picture = Picture { width: 16, height: 8, ctb: 16, format, luma_depth: 8, chroma_depth: 8, luma, chroma };
 //! let mut state = picture.state();
 //! let sizes = calls::sizes(&state)?;
 //! let (mut deblocked, mut filtered) = (vec![0; sizes.samples[0]], vec![0; sizes.samples[0]]);

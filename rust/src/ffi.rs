@@ -54,8 +54,10 @@ pub struct State {
     pub ctb: u32,
     /// chroma_format_idc, 0 to 3: the numbers of [`ChromaFormat`](crate::ChromaFormat).
     pub format: u32,
-    /// Bit depth, 8 to 16.
-    pub depth: u32,
+    /// Bit depth of luma, BitDepthY, 8 to 16.
+    pub luma_depth: u32,
+    /// Bit depth of Cb and Cr, BitDepthC, 8 to 16; in monochrome the same as luma's.
+    pub chroma_depth: u32,
     /// The switch that says whether luma is filtered, 0 or 1.
     pub luma: u32,
     /// The switch that says whether Cb and Cr are filtered, 0 or 1.

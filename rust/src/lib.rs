@@ -18,8 +18,7 @@
 //! - several slices; one slice may have any number of segments
 //! - tiles
 //! - lossless units, and PCM units whose loop filtering is disabled: they keep their samples
-//! - luma and chroma of different depths
-//! - above 10 bits, offsets sent with a scale (log2_sao_offset_scale) other than depth minus 10
+//! - above 10 bits, offsets sent with a scale (log2_sao_offset_scale) other than the component's depth minus 10
 //!
 //! No call can see them: such a picture is accepted and comes out wrong.
 //!
@@ -33,8 +32,8 @@
 //! use steamgusset::{BINS_BYTES, ChromaFormat, CtuSet, Offsets, Picture, Refusal, Stage};
 //!
 //! fn main() -> Result<(), Refusal> {
-//!     let format = ChromaFormat::Monochrome;
-//!     let picture = Picture { width: 32, height: 16, ctb: 16, format, depth: 8, luma: true, chroma: false };
+//!     let (format, luma, chroma) = (ChromaFormat::Monochrome, true, false);
+//!     let picture = Picture { width: 32, height: 16, ctb: 16, format, luma_depth: 8, chroma_depth: 8, luma, chroma };
 //!     let mut stage = Stage::open(picture)?;
 //!
 //!     // The sets, in order. An encoder writes them; a decoder gives the bins to `read`.
@@ -71,7 +70,7 @@
 //! }
 //! ```
 //!
-//! Component 0 is luma, 1 Cb, 2 Cr. Samples are 16 bit at every depth.
+//! Component 0 is luma, 1 Cb, 2 Cr. Samples are 16 bit at every depth, and luma's depth and chroma's may differ.
 //!
 //! # Building
 //!

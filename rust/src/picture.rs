@@ -70,14 +70,14 @@ impl fmt::Display for ChromaFormat {
 
 /// The description. One that breaks a rule can be made, and is refused.
 ///
-/// The rules: width and height are multiples of 8 from 8 to 8192; CTB size 16, 32 or 64; depth 8 to 16; no chroma switch
-/// in monochrome.
+/// The rules: width and height are multiples of 8 from 8 to 8192; CTB size 16, 32 or 64; both depths 8 to 16; in
+/// monochrome no chroma switch, and a chroma depth that is luma's.
 ///
 /// ```
 /// use steamgusset::{ChromaFormat, Picture, Refusal};
 ///
-/// let format = ChromaFormat::Chroma420;
-/// let picture = Picture { width: 40, height: 24, ctb: 16, format, depth: 8, luma: true, chroma: true };
+/// let (format, luma, chroma) = (ChromaFormat::Chroma420, true, true);
+/// let picture = Picture { width: 40, height: 24, ctb: 16, format, luma_depth: 8, chroma_depth: 8, luma, chroma };
 /// let sizes = picture.sizes()?;
 /// assert_eq!((sizes.columns, sizes.rows, sizes.samples), (3, 2, [960, 240, 240]));
 /// // In 4:2:2 chroma has half the width and the full height.
@@ -85,6 +85,12 @@ impl fmt::Display for ChromaFormat {
 /// assert_eq!((wide.sizes()?.width, wide.sizes()?.height), ([40, 20, 20], [24, 24, 24]));
 /// // The last CTB is cut short at the right and below.
 /// assert_eq!(picture.block(0, 5)?.samples(), 8 * 8);
+/// // Luma and chroma have a depth each, which changes no length; where there is no chroma, its depth is luma's.
+/// let deep = Picture { luma_depth: 10, ..picture };
+/// assert_eq!(([0, 1, 2].map(|component| deep.depth(component)), deep.sizes()?), ([10, 8, 8], sizes));
+/// let grey = Picture { format: ChromaFormat::Monochrome, chroma: false, ..deep };
+/// assert_eq!(grey.sizes(), Err(Refusal::Description));
+/// assert_eq!(Picture { chroma_depth: 10, ..grey }.sizes()?.samples, [960, 0, 0]);
 /// assert_eq!(Picture { ctb: 8, ..picture }.sizes(), Err(Refusal::Description));
 /// # Ok::<(), Refusal>(())
 /// ```
@@ -98,8 +104,10 @@ pub struct Picture {
     pub ctb: u32,
     /// The chroma format.
     pub format: ChromaFormat,
-    /// Bit depth of all components.
-    pub depth: u8,
+    /// Bit depth of luma: BitDepthY.
+    pub luma_depth: u8,
+    /// Bit depth of Cb and Cr: BitDepthC. In monochrome it is to be named too, and is luma's.
+    pub chroma_depth: u8,
     /// The switch that says whether luma is filtered: slice_sao_luma_flag.
     pub luma: bool,
     /// The switch that says whether Cb and Cr are filtered: slice_sao_chroma_flag.
@@ -115,7 +123,8 @@ impl Picture {
             height: self.height,
             ctb: self.ctb,
             format: self.format.into(),
-            depth: self.depth.into(),
+            luma_depth: self.luma_depth.into(),
+            chroma_depth: self.chroma_depth.into(),
             luma: self.luma.into(),
             chroma: self.chroma.into(),
             next: 0,
@@ -138,6 +147,15 @@ impl Picture {
     /// [`Refusal::Description`], [`Refusal::NoSuchBlock`].
     pub fn block(&self, component: u32, ctb: u32) -> Result<Block, Refusal> {
         calls::block(&self.state(), component, ctb)
+    }
+
+    /// The bit depth of a component: luma's for 0, chroma's for every other number.
+    #[must_use]
+    pub const fn depth(&self, component: u32) -> u8 {
+        match component {
+            0 => self.luma_depth,
+            _ => self.chroma_depth,
+        }
     }
 
     /// How many planes the format has: luma alone, or luma, Cb and Cr.

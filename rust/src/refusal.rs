@@ -37,7 +37,7 @@ pub enum Refusal {
     BinsRemain,
     /// 7: every CTU already has its set.
     AllRead,
-    /// 8: a delivered sample exceeds 2^depth - 1.
+    /// 8: a delivered sample exceeds 2^depth - 1, by the depth of its component.
     SampleTooLarge,
     /// 9: that CTB was delivered before.
     DeliveredBefore,

@@ -9,7 +9,7 @@ pub const SET_BYTES: usize = 18;
 pub const ENTRY_BYTES: usize = SET_BYTES;
 
 /// Room that every CTU's bins fit in, at every depth. The longest are 405 bins: both merge bins, and bands of the
-/// largest magnitude in all three components.
+/// largest magnitude in all three components, at depths of 10 and above.
 pub const BINS_BYTES: usize = 51;
 
 const COMPONENT_BYTES: usize = SET_BYTES / 3;
@@ -21,7 +21,7 @@ const OFFSET_BIAS: u8 = 128;
 /// ([`Refusal::NoBins`](crate::Refusal::NoBins)) when written.
 ///
 /// Offsets are as coded, before they are scaled to the depth. Their magnitude is at most 7 at depth 8, 15 at depth 9 and
-/// 31 above.
+/// 31 above, by the depth of the component.
 #[derive(Clone, Copy, Debug, Default, PartialEq, Eq, Hash)]
 pub enum Offsets {
     /// The component's samples stay as they are.

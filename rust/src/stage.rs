@@ -18,8 +18,8 @@ use std::fmt;
 /// ```
 /// use steamgusset::{ChromaFormat, CtuSet, Picture, Refusal, Stage};
 ///
-/// let format = ChromaFormat::Monochrome;
-/// let picture = Picture { width: 8, height: 8, ctb: 16, format, depth: 8, luma: true, chroma: false };
+/// let (format, luma, chroma) = (ChromaFormat::Monochrome, true, false);
+/// let picture = Picture { width: 8, height: 8, ctb: 16, format, luma_depth: 8, chroma_depth: 8, luma, chroma };
 /// let mut stage = Stage::open(picture)?;
 /// stage.deliver(0, 0, &[9; 64])?;
 /// assert_eq!(stage.filter(0, 0), Err(Refusal::NotReady));
@@ -39,8 +39,8 @@ use std::fmt;
 /// ```
 /// use steamgusset::{ChromaFormat, CtuSet, Picture, Refusal, Stage};
 ///
-/// let format = ChromaFormat::Monochrome;
-/// let picture = Picture { width: 8, height: 8, ctb: 16, format, depth: 8, luma: true, chroma: false };
+/// let (format, luma, chroma) = (ChromaFormat::Monochrome, true, false);
+/// let picture = Picture { width: 8, height: 8, ctb: 16, format, luma_depth: 8, chroma_depth: 8, luma, chroma };
 /// let mut stages = [Stage::open(picture)?, Stage::open(picture)?];
 /// std::thread::scope(|scope| {
 ///     for stage in &mut stages {
@@ -79,8 +79,8 @@ impl Stage {
     /// ```
     /// use steamgusset::{Buffers, ChromaFormat, CtuSet, Picture, Plane, Refusal, Stage};
     ///
-    /// let format = ChromaFormat::Monochrome;
-    /// let picture = Picture { width: 8, height: 8, ctb: 16, format, depth: 8, luma: true, chroma: false };
+    /// let (format, luma, chroma) = (ChromaFormat::Monochrome, true, false);
+    /// let picture = Picture { width: 8, height: 8, ctb: 16, format, luma_depth: 8, chroma_depth: 8, luma, chroma };
     /// let mut unused = vec![picture.sizes()?.samples.map(Plane::zeros)];
     /// let mut references = Vec::new();
     ///
@@ -119,8 +119,8 @@ impl<'a> Stage<Lent<'a>> {
     /// ```
     /// use steamgusset::{ChromaFormat, CtuSet, ENTRY_BYTES, Lent, Picture, Refusal, Stage};
     ///
-    /// let format = ChromaFormat::Monochrome;
-    /// let picture = Picture { width: 8, height: 8, ctb: 16, format, depth: 8, luma: true, chroma: false };
+    /// let (format, luma, chroma) = (ChromaFormat::Monochrome, true, false);
+    /// let picture = Picture { width: 8, height: 8, ctb: 16, format, luma_depth: 8, chroma_depth: 8, luma, chroma };
     /// let (mut before, mut after, mut marks, mut table) = ([0; 64], [0; 64], [0; 1], [0; ENTRY_BYTES]);
     /// let lent = Lent {
     ///     deblocked: [&mut before, &mut [], &mut []],
@@ -165,8 +165,8 @@ impl<B: Memory> Stage<B> {
     /// ```
     /// use steamgusset::{ChromaFormat, CtuSet, Picture, Refusal, Stage};
     ///
-    /// let format = ChromaFormat::Monochrome;
-    /// let picture = Picture { width: 8, height: 8, ctb: 16, format, depth: 8, luma: true, chroma: false };
+    /// let (format, luma, chroma) = (ChromaFormat::Monochrome, true, false);
+    /// let picture = Picture { width: 8, height: 8, ctb: 16, format, luma_depth: 8, chroma_depth: 8, luma, chroma };
     /// let mut stage = Stage::open(picture)?;
     /// stage.write(&CtuSet::OFF, &mut [0])?;
     /// assert_eq!(stage.next_ctu(), 1);
@@ -187,8 +187,8 @@ impl<B: Memory> Stage<B> {
     /// ```
     /// use steamgusset::{ChromaFormat, CtuSet, Picture, Refusal, Stage};
     ///
-    /// let format = ChromaFormat::Monochrome;
-    /// let picture = Picture { width: 8, height: 8, ctb: 16, format, depth: 8, luma: true, chroma: false };
+    /// let (format, luma, chroma) = (ChromaFormat::Monochrome, true, false);
+    /// let picture = Picture { width: 8, height: 8, ctb: 16, format, luma_depth: 8, chroma_depth: 8, luma, chroma };
     /// let mut stage = Stage::open(picture)?;
     /// stage.write(&CtuSet::OFF, &mut [0])?;
     /// stage.deliver(0, 0, &[9; 64])?;
@@ -239,8 +239,8 @@ impl<B: Memory> Stage<B> {
     /// ```
     /// use steamgusset::{ChromaFormat, Offsets, Picture, Refusal, Stage};
     ///
-    /// let format = ChromaFormat::Monochrome;
-    /// let picture = Picture { width: 8, height: 8, ctb: 16, format, depth: 8, luma: true, chroma: false };
+    /// let (format, luma, chroma) = (ChromaFormat::Monochrome, true, false);
+    /// let picture = Picture { width: 8, height: 8, ctb: 16, format, luma_depth: 8, chroma_depth: 8, luma, chroma };
     /// let mut stage = Stage::open(picture)?;
     /// // Edge; magnitudes 1, 0, 0, 2; class 3.
     /// let bins = [0b11_10_0_0_11, 0b0_11_00000];
@@ -264,8 +264,8 @@ impl<B: Memory> Stage<B> {
     /// ```
     /// use steamgusset::{BINS_BYTES, ChromaFormat, CtuSet, Offsets, Picture, Refusal, Stage};
     ///
-    /// let format = ChromaFormat::Monochrome;
-    /// let picture = Picture { width: 32, height: 8, ctb: 16, format, depth: 8, luma: true, chroma: false };
+    /// let (format, luma, chroma) = (ChromaFormat::Monochrome, true, false);
+    /// let picture = Picture { width: 32, height: 8, ctb: 16, format, luma_depth: 8, chroma_depth: 8, luma, chroma };
     /// let mut stage = Stage::open(picture)?;
     /// let set = CtuSet { luma: Offsets::Band { position: 9, offsets: [1, 0, 0, 0] }, ..CtuSet::OFF };
     /// let mut bins = [0; BINS_BYTES];
@@ -289,8 +289,8 @@ impl<B: Memory> Stage<B> {
     /// ```
     /// use steamgusset::{ChromaFormat, Picture, Refusal, Stage};
     ///
-    /// let format = ChromaFormat::Monochrome;
-    /// let picture = Picture { width: 24, height: 8, ctb: 16, format, depth: 8, luma: true, chroma: false };
+    /// let (format, luma, chroma) = (ChromaFormat::Monochrome, true, false);
+    /// let picture = Picture { width: 24, height: 8, ctb: 16, format, luma_depth: 8, chroma_depth: 8, luma, chroma };
     /// let mut stage = Stage::open(picture)?;
     /// let samples = vec![200; stage.block(0, 1)?.samples()];
     /// stage.deliver(0, 1, &samples)?;
@@ -312,8 +312,8 @@ impl<B: Memory> Stage<B> {
     /// ```
     /// use steamgusset::{ChromaFormat, CtuSet, Offsets, Picture, Refusal, Stage};
     ///
-    /// let format = ChromaFormat::Monochrome;
-    /// let picture = Picture { width: 8, height: 8, ctb: 16, format, depth: 8, luma: true, chroma: false };
+    /// let (format, luma, chroma) = (ChromaFormat::Monochrome, true, false);
+    /// let picture = Picture { width: 8, height: 8, ctb: 16, format, luma_depth: 8, chroma_depth: 8, luma, chroma };
     /// let mut stage = Stage::open(picture)?;
     /// let set = CtuSet { luma: Offsets::Band { position: 12, offsets: [5, 0, 0, 0] }, ..CtuSet::OFF };
     /// stage.write(&set, &mut [0; 3])?;
@@ -341,8 +341,8 @@ impl<B: Memory> Stage<B> {
     /// ```
     /// use steamgusset::{ChromaFormat, CtuSet, Picture, Refusal, Stage};
     ///
-    /// let format = ChromaFormat::Monochrome;
-    /// let picture = Picture { width: 8, height: 40, ctb: 16, format, depth: 8, luma: true, chroma: false };
+    /// let (format, luma, chroma) = (ChromaFormat::Monochrome, true, false);
+    /// let picture = Picture { width: 8, height: 40, ctb: 16, format, luma_depth: 8, chroma_depth: 8, luma, chroma };
     /// let mut stage = Stage::open(picture)?;
     /// stage.write(&CtuSet::OFF, &mut [0])?;
     /// stage.deliver(0, 0, &[1; 128])?;

@@ -2,12 +2,12 @@
 //!
 //! Method: the archive is called through the raw functions, on memory between guards; the second program judges the
 //! same call on its own world. After each call the answer, the state, and every byte of every buffer lent must be the
-//! same, and every guard untouched. Pictures of every size class, format, depth and switches are brought to their end
-//! in random order, and must end as the second program filters the whole picture at once. Among those calls, and on
-//! damaged copies of what is lent, is bad input of every kind: numbers at the borders of what is right, numbers whose
-//! low bits are right, and any numbers at all. Each refusal of each call must be seen often enough, and so must reads
-//! of more bins than 16 bits count, which the tables printed at the end show. Beside the random runs every value of
-//! every byte that is judged is tried in its place, and a sample above the depth at every place.
+//! same, and every guard untouched. Pictures of every size class, format, pair of depths and switches are brought to
+//! their end in random order, and must end as the second program filters the whole picture at once. Among those calls,
+//! and on damaged copies of what is lent, is bad input of every kind: numbers at the borders of what is right, numbers
+//! whose low bits are right, and any numbers at all. Each refusal of each call must be seen often enough, and so must
+//! reads of more bins than 16 bits count, which the tables printed at the end show. Beside the random runs every value
+//! of every byte that is judged is tried in its place, and a sample above the depth at every place.
 //!
 //! A seed names at least a thousand calls, whatever the number of threads. From the environment:
 //!
@@ -135,6 +135,10 @@ fn every_call_is_as_the_second_program_says() {
         let rarest = tally.rarest();
         assert!(rarest.is_some_and(|(_, _, times)| times >= OFTEN), "too rare: {rarest:?}");
         assert!(tally.every_picture(), "some class or kind of picture is missing");
+        let rarest = tally.rarest_wrong_depths();
+        assert!(rarest.is_some_and(|times| times >= OFTEN), "wrong depths are too rare: {rarest:?}");
+        let rarest = tally.rarest_depths();
+        assert!(rarest.is_some_and(|(_, pictures)| pictures > 0), "a pair of depths is missing: {rarest:?}");
         assert!(tally.equal_shares(), "some format has more pictures than another");
         assert!(tally.long >= OFTEN, "reads of many bins are too rare: {}", tally.long);
     }

@@ -148,11 +148,11 @@ fn edge(class: u8, offsets: [i8; 4]) -> [u8; 8] {
 fn the_bundled_vectors_agree() {
     let (status, lines, error) = check(&[], &vectors());
     assert_eq!((status, error.as_str()), (Some(0), ""));
-    assert_eq!(lines.lines().filter(|line| line.ends_with(": agrees")).count(), 46);
+    assert_eq!(lines.lines().filter(|line| line.ends_with(": agrees")).count(), 47);
     let total = lines.lines().last().expect("a last line");
-    let counts = "46 agree, 0 differ, 0 not covered, 0 damaged, 0 cannot be read; 334176 samples, ";
+    let counts = "47 agree, 0 differ, 0 not covered, 0 damaged, 0 cannot be read; 340224 samples, ";
     assert!(
-        total.starts_with(counts) && total.contains(" of 1031 blocks filtered before the last delivery, "),
+        total.starts_with(counts) && total.contains(" of 1091 blocks filtered before the last delivery, "),
         "{total}"
     );
 }
@@ -162,7 +162,7 @@ fn every_seed_agrees() {
     for seed in ["0", "2", "3", "18446744073709551615"] {
         let (status, lines, error) = check(&["--seed", seed], &vectors());
         assert_eq!((status, error.as_str()), (Some(0), ""));
-        assert!(lines.contains("46 agree, 0 differ"), "{lines}");
+        assert!(lines.contains("47 agree, 0 differ"), "{lines}");
     }
 }
 
@@ -178,6 +178,7 @@ fn a_line_says_what_the_picture_is() {
     for (start, says) in [
         ("x_l422_10", "  88x72 4:2:2 depth 10 CTB 16, off/band/edge Y 0/12/18 Cb 0/13/17 Cr 0/13/17, 5753 of 12672 "),
         ("x_l444_8", "  88x72 4:4:4 depth 8 CTB 16, off/band/edge Y 0/13/17 Cb 1/20/9 Cr 1/20/9, 7172 of 19008 "),
+        ("d_420_8y10c", "  72x56 4:2:0 depth 8/10 CTB 16, off/band/edge Y 2/2/16 Cb 6/3/11 Cr 6/3/11, 1635 of 6048 "),
     ] {
         let (_, lines, _) = check(&[], &[vector(start)]);
         assert!(lines.contains(says), "{lines}");
@@ -247,7 +248,9 @@ fn filter_writes_the_final_planes() {
         assert_eq!((status, error.as_str(), line.lines().count()), (Some(0), "", 1));
         let bytes = fs::read(&name).expect("a readable vector");
         let (samples, _) = final_samples(&bytes);
-        let expected: Vec<u8> = match field(&bytes, 3) {
+        // In monochrome (ChromaArrayType 0) luma's depth alone counts.
+        let depth = field(&bytes, 3).max(if field(&bytes, 24) == 0 { 8 } else { field(&bytes, 4) });
+        let expected: Vec<u8> = match depth {
             8 => samples.iter().map(|sample| *sample as u8).collect(),
             _ => samples.iter().flat_map(|sample| sample.to_le_bytes()).collect(),
         };
@@ -266,6 +269,22 @@ fn filter_says_what_it_did() {
     let expected = format!("72x56 4:2:0 depth 10: {changed}, written: {out}, {}\n", files.join(", "));
     assert_eq!((status, line), (Some(0), expected));
     assert_eq!(names(&folder), ["out.yuv", "p-after.ppm", "p-before.ppm", "p-difference.ppm"]);
+}
+
+/// Luma at 8 bits and chroma at 10: every plane has two bytes a sample, and no value is scaled.
+#[test]
+fn two_depths_give_two_bytes_in_every_plane() {
+    let folder = folder("filter-two-depths");
+    let (name, out) = (vector("d_420_8y10c"), path(&folder, "out.yuv"));
+    let (status, line, _) = steamgusset(&["filter", &name, "-o", &out]);
+    let changed = "1635 samples changed (Y 1254, Cb 381, Cr 0)";
+    let expected = format!("72x56 4:2:0 depth 8/10: {changed}, written: {out}\n");
+    assert_eq!((status, line), (Some(0), expected));
+    let (samples, luma) = final_samples(&fs::read(&name).expect("a readable vector"));
+    assert!(samples[..luma].iter().all(|sample| *sample < 256) && samples[luma..].iter().any(|sample| *sample > 255));
+    let written = fs::read(&out).expect("the output");
+    assert!(written == samples.iter().flat_map(|sample| sample.to_le_bytes()).collect::<Vec<_>>());
+    assert_eq!(written.len(), 2 * 72 * 56 * 3 / 2);
 }
 
 /// Width, height and pixel bytes of a PNG with stored blocks, taken apart.
@@ -680,6 +699,40 @@ fn chroma_and_depths() {
     both_ways("--depth 9 --chroma on", "62FFFF80", 28, set);
 }
 
+/// A magnitude of 7 is seven ones at depth 8, where it is the largest; at depth 10 a zero follows them.
+#[test]
+fn chroma_has_a_depth_of_its_own() {
+    let set = "edge:0:7,0,0,0/edge:0:7,0,0,0/edge:0:0,0,0,-7";
+    for (depths, hex, count, luma) in [
+        // 11 11111110 0 0 0 00, 11 1111111 0 0 0 00, 0 0 0 1111111
+        ("--depth 10 --chroma-depth 8", "FF81FF00FE", 39, "11111110"),
+        // 11 1111111 0 0 0 00, 11 11111110 0 0 0 00, 0 0 0 11111110
+        ("--depth 8 --chroma-depth 10", "FF83FE00FE", 40, "1111111"),
+    ] {
+        both_ways(&format!("{depths} --chroma on"), hex, count, set);
+        let (_, lines, _) = typed(&format!("bins {depths} --chroma on {hex} {count}"));
+        assert_eq!(element(&lines, "sao_offset_abs[0]"), [luma, "7"]);
+    }
+    // The same bins at two depths and at one.
+    for (depths, set) in [
+        ("--depth 10 --chroma-depth 8", "edge:3:0,0,0,-8/edge:0:0,7,0,0/edge:0:1,0,0,0"),
+        ("--depth 10", "edge:3:0,0,0,-8/edge:1:0,7,0,0/edge:1:0,0,0,0"),
+        ("--depth 8", "edge:2:0,0,0,-7/edge:0:2,7,0,0/edge:0:1,0,0,0"),
+    ] {
+        both_ways(&format!("{depths} --chroma on"), "C7FBDFC200", 35, set);
+    }
+}
+
+#[test]
+fn chromas_depth_may_be_left_out() {
+    let set = "off/edge:3:0,0,0,-1/edge:3:15,0,0,0";
+    both_ways("--depth 9 --chroma-depth 9 --chroma on", "62FFFF80", 28, set);
+    // Where chroma is off, no bin goes by its depth.
+    for depths in ["--depth 10", "--depth 10 --chroma-depth 8", "--depth 10 --chroma-depth 16 --chroma off"] {
+        both_ways(depths, "E340", 11, "edge:2:1,0,0,-2/off/off");
+    }
+}
+
 #[test]
 fn sets_that_no_bins_mean() {
     let signs = "has an edge with a negative offset among the first two, or a positive one among the last two";
@@ -691,6 +744,18 @@ fn sets_that_no_bins_mean() {
         ("--set band:0:8,0,0,0", "Y has the offset 8, outside -7 to 7"),
         ("--depth 9 --set band:0:0,0,0,-16", "Y has the offset -16, outside -15 to 15"),
         ("--depth 16 --set edge:0:0,0,0,-128", "Y has the offset -128, outside -31 to 31"),
+        (
+            "--depth 10 --chroma-depth 8 --chroma on --set band:0:31,0,0,0/band:0:7,0,0,0/band:0:8,0,0,0",
+            "Cr has the offset 8, outside -7 to 7",
+        ),
+        (
+            "--depth 8 --chroma-depth 9 --chroma on --set band:0:8,0,0,0/band:0:15,0,0,0/band:0:15,0,0,0",
+            "Y has the offset 8, outside -7 to 7",
+        ),
+        (
+            "--chroma-depth 9 --chroma on --set off/band:0:16,0,0,0/band:0:15,0,0,0",
+            "Cb has the offset 16, outside -15 to 15",
+        ),
         ("--set off/band:0:1,0,0,0/band:0:1,0,0,0", "Cb is on, and its switch is off"),
         ("--luma off --set band:0:1,0,0,0", "Y is on, and its switch is off"),
         ("--chroma on --set off/edge:1:0,0,0,0/edge:2:0,0,0,0", "Cr has the class 2, and Cb 1"),
@@ -798,6 +863,10 @@ fn a_bad_command_line() {
         "bins GG 1",
         "bins --depth 7 00 1",
         "bins --depth 17 00 1",
+        "bins --chroma-depth 7 00 1",
+        "bins --chroma-depth 17 00 1",
+        "bins --chroma-depth ten 00 1",
+        "bins --chroma-depth 9 --chroma-depth 9 00 1",
         "bins --luma maybe 00 1",
         "bins --set edge",
         "bins --left edge:1 00 1",

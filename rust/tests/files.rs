@@ -121,16 +121,19 @@ fn is_damage((status, lines, error): Ran, path: &Path, why: &str) {
 fn above_10_bits_the_2013_scale_is_covered() {
     agrees("scaled", &scaled());
     // Chroma's scale and depth mean nothing where there is no chroma.
-    agrees("scaled-chroma", &with(scaled(), &[(4, 8), (10, 0)]));
+    for (depth, scale, name) in [(8, 0, "scaled-chroma-8"), (12, 0, "scaled-chroma-12"), (16, 3, "scaled-chroma-16")] {
+        agrees(name, &with(scaled(), &[(4, depth), (10, scale)]));
+    }
     for (luma, name) in [(0, "scale-0"), (1, "scale-1")] {
         let why = format!("its offsets are sent with scale {luma} for luma; at depth 12 the stage has 2");
         is_not_covered(name, &with(scaled(), &[(9, luma)]), &why);
     }
 }
 
-/// A file of depth 8 made one of another depth and the scales given, its final planes by the 2013 rule.
-fn deepened(depth: i32, luma: i32, chroma: i32) -> Vec<u8> {
-    let mut bytes = with(twenty_ctus(), &[(3, depth), (4, depth), (9, luma), (10, chroma)]);
+/// A file of depth 8 made one of other depths and the scales given, luma's first, its final planes by the 2013 rule.
+fn deepened(depths: [i32; 2], scales: [i32; 2]) -> Vec<u8> {
+    let fields = [(3, depths[0]), (4, depths[1]), (9, scales[0]), (10, scales[1])];
+    let mut bytes = with(twenty_ctus(), &fields);
     let vector = Vector::parse(&bytes).expect("a sound file");
     let planes = filter_picture(&vector.picture(), &vector.sets(), vector.deblocked.each_ref().map(Vec::as_slice));
     let samples: Vec<u8> = planes.iter().flatten().flat_map(|sample| sample.to_le_bytes()).collect();
@@ -142,11 +145,43 @@ fn deepened(depth: i32, luma: i32, chroma: i32) -> Vec<u8> {
 
 #[test]
 fn above_10_bits_both_scales_count_where_there_is_chroma() {
-    agrees("deep-11", &deepened(11, 1, 1));
-    agrees("deep-16", &deepened(16, 6, 6));
+    agrees("deep-11", &deepened([11; 2], [1; 2]));
+    agrees("deep-16", &deepened([16; 2], [6; 2]));
     for (luma, chroma, name) in [(0, 0, "deep-0-0"), (2, 1, "deep-2-1"), (1, 2, "deep-1-2")] {
         let sent = format!("its offsets are sent with scale {luma} for luma and {chroma} for chroma");
-        is_not_covered(name, &deepened(12, luma, chroma), &format!("{sent}; at depth 12 the stage has 2"));
+        is_not_covered(name, &deepened([12; 2], [luma, chroma]), &format!("{sent}; at depth 12 the stage has 2"));
+    }
+}
+
+#[test]
+fn two_depths_are_covered_each_with_its_own_scale() {
+    for (luma, chroma) in (8..=16).flat_map(|luma| (8..=16).map(move |chroma| (luma, chroma))) {
+        let scales = [luma, chroma].map(|depth| (depth - 10).max(0));
+        agrees(&format!("depths-{luma}-{chroma}"), &deepened([luma, chroma], scales));
+    }
+    for (depths, scales, stage) in [
+        ([12, 8], [0, 0], "at depth 12/8 the stage has 2 and 0"),
+        ([9, 16], [0, 5], "at depth 9/16 the stage has 0 and 6"),
+        // The one's scale is not the other's.
+        ([12, 13], [2, 2], "at depth 12/13 the stage has 2 and 3"),
+        ([11, 12], [0, 1], "at depth 11/12 the stage has 1 and 2"),
+    ] {
+        let sent = format!("its offsets are sent with scale {} for luma and {} for chroma", scales[0], scales[1]);
+        let name = format!("scales-{}-{}", depths[0], depths[1]);
+        is_not_covered(&name, &deepened(depths, scales), &format!("{sent}; {stage}"));
+    }
+}
+
+#[test]
+fn a_sample_is_judged_by_its_components_depth() {
+    // The last sample of the deblocked planes is Cr's, the first is luma's.
+    let planes = 2 * (72 * 56 * 3 / 2);
+    let (first, last) = (twenty_ctus().len() - 2 * planes, twenty_ctus().len() - planes - 2);
+    for (depths, place, sample) in [([8, 10], first, 256), ([8, 10], last, 1024), ([10, 8], last, 256)] {
+        let mut bytes = deepened(depths, [0, 0]);
+        bytes[place..place + 2].copy_from_slice(&(sample as u16).to_le_bytes());
+        let why = format!("a deblocked plane has the sample {sample}, above {}", sample - 1);
+        is_damaged(&format!("sample-{}-{place}", depths[0]), &bytes, &why);
     }
 }
 
@@ -173,9 +208,8 @@ fn what_is_not_covered_is_said() {
     };
     let pcm = kept(1, &[(23, 1)]);
     agrees("pcm", &pcm);
-    let pictures: [(&str, Vec<u8>, &str); 4] = [
+    let pictures: [(&str, Vec<u8>, &str); 3] = [
         ("tiles", tiles, "it has several tiles"),
-        ("depths", with(twenty_ctus(), &[(4, 9)]), "it has two depths, luma 8 and chroma 9"),
         ("lossless", kept(2, &[(23, 2)]), "it has lossless units, which keep their samples"),
         ("pcm", with(pcm, &[(11, 1)]), "it has PCM units whose loop filtering is disabled"),
     ];
@@ -393,10 +427,13 @@ fn bytes_read(name: &str, bytes: &[u8]) -> (Ran, u64) {
 fn nothing_is_read_after_a_header_that_is_not_covered() {
     for (number, (fields, why)) in [
         (&[(0, 8200), (1, 8), (7, 513), (8, 1)][..], "its size is 8200x8, above 8192"),
-        (&[(4, 9)], "it has two depths, luma 8 and chroma 9"),
         (
             &[(3, 12), (4, 12), (9, 2)],
             "its offsets are sent with scale 2 for luma and 0 for chroma; at depth 12 the stage has 2",
+        ),
+        (
+            &[(3, 12), (9, 1)],
+            "its offsets are sent with scale 1 for luma and 0 for chroma; at depth 12/8 the stage has 2 and 0",
         ),
         (&[(14, 2)], "it has several tiles"),
         (&[(23, 2)], "it has lossless units, which keep their samples"),

@@ -18,14 +18,17 @@ const APART: u8 = 1;
 const SHOWN: &str =
     "zscale=matrixin=709:rangein=limited:chromalin=center:filter=point:matrix=gbr:range=full,format=gbrp";
 
-/// The bundled pictures, but for grey ones above 8 bits: for these the usual scaler comes first, which takes them to be of
-/// full range.
+/// The bundled pictures, but for grey ones above 8 bits, for which the usual scaler comes first and takes them to be of
+/// full range, and but for those with two depths, for which ffmpeg has no format.
 fn taken() -> Vec<(PathBuf, Picture)> {
     let folder = Path::new(env!("CARGO_MANIFEST_DIR")).join("../vectors");
     let files = fs::read_dir(folder).expect("the bundled vectors").map(|entry| entry.expect("an entry").path());
     let files = files.filter(|file| file.extension().is_some_and(|ending| ending == "sao"));
     let read = |file: &PathBuf| Vector::parse(&fs::read(file).expect("a vector")).expect("a sound vector").picture();
-    let is_taken = |picture: &Picture| picture.format != 0 || picture.depth == 8;
+    let is_taken = |picture: &Picture| {
+        let Picture { format, luma_depth, chroma_depth, .. } = *picture;
+        luma_depth == chroma_depth && (format != 0 || luma_depth == 8)
+    };
     files.map(|file| (file.clone(), read(&file))).filter(|(_, picture)| is_taken(picture)).collect()
 }
 
@@ -37,7 +40,7 @@ fn is_there() -> bool {
 /// The player's name for the format.
 fn pixel_format(picture: &Picture) -> String {
     let planes = ["gray", "yuv420p", "yuv422p", "yuv444p"][usize::from(picture.format)];
-    if picture.depth == 8 { planes.into() } else { format!("{planes}{}le", picture.depth) }
+    if picture.luma_depth == 8 { planes.into() } else { format!("{planes}{}le", picture.luma_depth) }
 }
 
 /// What a command prints that has to succeed.

@@ -182,7 +182,8 @@ impl Saved {
             height: number(offset_of!(ffi::State, height)),
             ctb: number(offset_of!(ffi::State, ctb)),
             format: number(offset_of!(ffi::State, format)) as u8,
-            depth: number(offset_of!(ffi::State, depth)) as u8,
+            luma_depth: number(offset_of!(ffi::State, luma_depth)) as u8,
+            chroma_depth: number(offset_of!(ffi::State, chroma_depth)) as u8,
             luma: number(offset_of!(ffi::State, luma)) == 1,
             chroma: number(offset_of!(ffi::State, chroma)) == 1,
         };

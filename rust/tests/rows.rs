@@ -13,12 +13,13 @@ const FILTERED: u8 = 2;
 
 /// A picture of so many CTBs, the last ones cut short.
 fn picture((columns, rows, format): (u32, u32, u8)) -> Picture {
-    Picture { width: 16 * columns - 8, height: 16 * rows - 8, ctb: 16, format, depth: 8, luma: true, chroma: true }
+    let (width, height, luma, chroma) = (16 * columns - 8, 16 * rows - 8, true, true);
+    Picture { width, height, ctb: 16, format, luma_depth: 8, chroma_depth: 8, luma, chroma }
 }
 
 fn state(picture: &Picture) -> State {
     let Picture { width, height, ctb, format, .. } = *picture;
-    State { width, height, ctb, format: format.into(), depth: 8, luma: 1, chroma: 1, next: 0 }
+    State { width, height, ctb, format: format.into(), luma_depth: 8, chroma_depth: 8, luma: 1, chroma: 1, next: 0 }
 }
 
 /// Both sides of the marks of one component.

@@ -7,8 +7,16 @@ use steamgusset::{
 };
 
 /// Nine CTUs, those on the right and below cut short.
-const NINE: Picture =
-    Picture { width: 40, height: 40, ctb: 16, format: ChromaFormat::Chroma420, depth: 10, luma: true, chroma: true };
+const NINE: Picture = Picture {
+    width: 40,
+    height: 40,
+    ctb: 16,
+    format: ChromaFormat::Chroma420,
+    luma_depth: 10,
+    chroma_depth: 10,
+    luma: true,
+    chroma: true,
+};
 
 /// Four CTUs; the last has a left and an upper neighbour.
 const FOUR: Picture = Picture { width: 32, height: 32, ..NINE };
@@ -153,7 +161,7 @@ fn owned_or_lent_and_in_either_order_the_planes_are_the_same() -> Outcome {
 /// Flat planes, each in another band and moved by another offset.
 #[test]
 fn every_component_has_its_own_plane_and_set() -> Outcome {
-    let mut stage = Stage::open(Picture { width: 8, height: 8, depth: 8, ..NINE })?;
+    let mut stage = Stage::open(Picture { width: 8, height: 8, luma_depth: 8, chroma_depth: 8, ..NINE })?;
     let set =
         CtuSet { luma: band(40 / 8, [1, 0, 0, 0]), cb: band(80 / 8, [2, 0, 0, 0]), cr: band(120 / 8, [3, 0, 0, 0]) };
     stage.write(&set, &mut [0; BINS_BYTES])?;
@@ -308,6 +316,65 @@ fn a_stage_may_go_to_another_thread() -> Outcome {
     Ok(())
 }
 
+// Depths.
+
+/// One CTU with a luma and a chroma depth.
+fn of_depths(luma_depth: u8, chroma_depth: u8) -> Picture {
+    Picture { width: 8, height: 8, luma_depth, chroma_depth, ..NINE }
+}
+
+/// Samples at the end of the component's range, of which band 31 is raised by the largest offset: the band's width, M, the
+/// shift and the upper limit are the component's own.
+#[test]
+fn every_component_is_filtered_by_its_own_depth() -> Outcome {
+    for picture in (8..=16).flat_map(|luma| (8..=16).map(move |chroma| of_depths(luma, chroma))) {
+        let raised = [0, 1, 2].map(|component| band(31, [largest(picture.depth(component)), 0, 0, 0]));
+        let mut stage = Stage::open(picture)?;
+        stage.write(&CtuSet { luma: raised[0], cb: raised[1], cr: raised[2] }, &mut [0; BINS_BYTES])?;
+        for component in 0..3 {
+            let depth = picture.depth(component);
+            let (top, offset) = (u16::MAX >> (16 - depth), largest(depth) as u16 * (1 << depth.saturating_sub(10)));
+            // The last sample of band 30, the first of band 31, and samples that the upper limit stops.
+            let first = top - (top >> 5);
+            let mut samples = vec![top - 1; stage.block(component, 0)?.samples()];
+            samples[..2].copy_from_slice(&[first - 1, first]);
+            stage.deliver(component, 0, &samples)?;
+            stage.filter(component, 0)?;
+            let finished = stage.finished_rows(component)?;
+            assert_eq!(finished[..2], [first - 1, first + offset], "{picture:?} {component}");
+            assert!(finished[2..].iter().all(|sample| *sample == top), "{picture:?} {component}");
+        }
+    }
+    Ok(())
+}
+
+#[test]
+fn a_delivered_sample_is_judged_by_its_components_depth() -> Outcome {
+    for (luma, chroma) in (8..16).flat_map(|luma| (8..16).map(move |chroma| (luma, chroma))) {
+        let mut stage = Stage::open(of_depths(luma, chroma))?;
+        for (component, depth) in [(0, luma), (1, chroma), (2, chroma)] {
+            let mut samples = vec![0; stage.block(component, 0)?.samples()];
+            samples[0] = 1 << depth;
+            assert_eq!(stage.deliver(component, 0, &samples), Err(Refusal::SampleTooLarge));
+            samples[0] -= 1;
+            assert_eq!(stage.deliver(component, 0, &samples), Ok(()));
+        }
+    }
+    Ok(())
+}
+
+/// In monochrome chroma's depth is luma's; with chroma, it is any.
+#[test]
+fn in_monochrome_there_is_one_depth() {
+    for (luma, chroma) in (7..=17).flat_map(|luma| (7..=17).map(move |chroma| (luma, chroma))) {
+        let with_chroma = of_depths(luma, chroma);
+        let monochrome = Picture { format: ChromaFormat::Monochrome, chroma: false, ..with_chroma };
+        let within = [luma, chroma].iter().all(|depth| (8..=16).contains(depth));
+        assert_eq!(with_chroma.sizes().is_ok(), within, "{luma} {chroma}");
+        assert_eq!(monochrome.sizes().is_ok(), within && luma == chroma, "{luma} {chroma}");
+    }
+}
+
 // Formats.
 
 /// The sizes of chroma by document 02's words: half width and full height in 4:2:2, luma's own in 4:4:4; and of the CTBs
@@ -354,7 +421,9 @@ fn opening_is_refused() {
         Picture { width: 41, ..NINE },
         Picture { height: 8200, ..NINE },
         Picture { ctb: 8, ..NINE },
-        Picture { depth: 17, ..NINE },
+        Picture { luma_depth: 17, ..NINE },
+        Picture { chroma_depth: 7, ..NINE },
+        Picture { luma_depth: 8, ..MONOCHROME },
         Picture { format: ChromaFormat::Monochrome, ..NINE },
     ];
     for picture in wrong {
@@ -553,15 +622,27 @@ fn other_bytes_are_no_set() {
     }
 }
 
-/// A set that has one type in luma and one in chroma, and one magnitude everywhere.
-fn uniform_set(luma: usize, chroma: usize, magnitude: i8) -> CtuSet {
-    let parts = [Offsets::Off, band(31, [-magnitude; 4]), edge(3, [magnitude, magnitude, -magnitude, -magnitude])];
-    CtuSet { luma: parts[luma], cb: parts[chroma], cr: parts[chroma] }
+/// Off, band or edge with one magnitude everywhere.
+fn uniform(kind: usize, magnitude: i8) -> Offsets {
+    [Offsets::Off, band(31, [-magnitude; 4]), edge(3, [magnitude, magnitude, -magnitude, -magnitude])][kind]
+}
+
+/// A set that has one type in luma and one in chroma, and one magnitude in each.
+fn uniform_set((luma, chroma): (usize, usize), [in_luma, in_chroma]: [i8; 2]) -> CtuSet {
+    let (luma, chroma) = (uniform(luma, in_luma), uniform(chroma, in_chroma));
+    CtuSet { luma, cb: chroma, cr: chroma }
+}
+
+/// The most bins of a CTU: two merge flags; two for each type, which Cr does not have; and for each component four
+/// magnitudes of M, four signs and five for the position.
+fn most_bins([in_luma, in_chroma]: [i8; 2]) -> usize {
+    let component = |most: i8| 4 * most as usize + 4 + 5;
+    2 + (2 + component(in_luma)) + (2 + component(in_chroma)) + component(in_chroma)
 }
 
 /// A stage whose next CTU has both neighbours, with sets that are off.
-fn last_of_four(depth: u8) -> Result<Stage, Refusal> {
-    let mut stage = Stage::open(Picture { depth, ..FOUR })?;
+fn last_of_four((luma_depth, chroma_depth): (u8, u8)) -> Result<Stage, Refusal> {
+    let mut stage = Stage::open(Picture { luma_depth, chroma_depth, ..FOUR })?;
     for _ in 0..3 {
         stage.write(&CtuSet::OFF, &mut [0])?;
     }
@@ -569,30 +650,51 @@ fn last_of_four(depth: u8) -> Result<Stage, Refusal> {
 }
 
 /// Writes the set in the last of four CTUs, reads it there from its bins, and answers their number.
-fn written_and_read(depth: u8, set: &CtuSet) -> Result<usize, Refusal> {
+fn written_and_read(depths: (u8, u8), set: &CtuSet) -> Result<usize, Refusal> {
     let mut bins = [0; BINS_BYTES];
-    let count = last_of_four(depth)?.write(set, &mut bins)?;
-    assert_eq!(last_of_four(depth)?.read(&bins[..count.div_ceil(8)], count), Ok(*set));
+    let count = last_of_four(depths)?.write(set, &mut bins)?;
+    assert_eq!(last_of_four(depths)?.read(&bins[..count.div_ceil(8)], count), Ok(*set));
     Ok(count)
 }
 
-/// Each part of the bins has its length from one value alone, so the longest are found with one type in each of luma
-/// and chroma and one magnitude everywhere.
+/// M.
+fn largest(depth: u8) -> i8 {
+    match depth {
+        8 => 7,
+        9 => 15,
+        _ => 31,
+    }
+}
+
+/// The most bins that are written at these depths. Each part of the bins has its length from one value alone, so the
+/// longest are found with one type in each of luma and chroma and one magnitude in each, both growing together.
+fn longest(depths: (u8, u8)) -> Result<usize, Refusal> {
+    let largest = [largest(depths.0), largest(depths.1)];
+    let mut longest = 0;
+    for (types, magnitude) in (0..9).flat_map(|types| (0..=31).map(move |magnitude| (types, magnitude))) {
+        let set = uniform_set((types / 3, types % 3), largest.map(|largest| largest.min(magnitude)));
+        longest = longest.max(written_and_read(depths, &set)?);
+    }
+    Ok(longest)
+}
+
 #[test]
 fn the_longest_bins_fit() -> Outcome {
-    let mut longest = 0;
-    for (depth, largest) in [(8, 7), (9, 15), (10, 31), (11, 31), (12, 31), (13, 31), (14, 31), (15, 31), (16, 31)] {
-        for (types, magnitude) in (0..9).flat_map(|types| (0..=largest).map(move |magnitude| (types, magnitude))) {
-            let set = uniform_set(types / 3, types % 3, magnitude);
-            longest = longest.max(written_and_read(depth, &set)?);
+    for depths in (8..=16).flat_map(|luma| (8..=16).map(move |chroma| (luma, chroma))) {
+        let [in_luma, in_chroma] = [largest(depths.0), largest(depths.1)];
+        assert_eq!(longest(depths)?, most_bins([in_luma, in_chroma]), "{depths:?}");
+        // A magnitude above the component's own M has no bins, whatever the other's is.
+        for beyond in [[in_luma + 1, in_chroma], [in_luma, in_chroma + 1]] {
+            assert_eq!(written_and_read(depths, &uniform_set((1, 1), beyond)), Err(Refusal::NoBins), "{depths:?}");
         }
-        let beyond = uniform_set(1, 1, largest + 1);
-        assert_eq!(written_and_read(depth, &beyond), Err(Refusal::NoBins));
     }
-    assert_eq!(longest, 405);
-    assert_eq!(BINS_BYTES, longest.div_ceil(8));
-    let bands = uniform_set(1, 1, 31);
-    assert_eq!(last_of_four(10)?.write(&bands, &mut [0; BINS_BYTES - 1]), Err(Refusal::NoRoom));
-    assert_eq!(last_of_four(10)?.write(&bands, &mut [0; BINS_BYTES]), Ok(longest));
+    let known = [((8, 8), 117), ((10, 8), 213), ((8, 10), 309), ((10, 10), 405)];
+    for (depths, bins) in known {
+        assert_eq!(longest(depths), Ok(bins), "{depths:?}");
+    }
+    assert_eq!(BINS_BYTES, 405_usize.div_ceil(8));
+    let bands = uniform_set((1, 1), [31; 2]);
+    assert_eq!(last_of_four((10, 10))?.write(&bands, &mut [0; BINS_BYTES - 1]), Err(Refusal::NoRoom));
+    assert_eq!(last_of_four((10, 10))?.write(&bands, &mut [0; BINS_BYTES]), Ok(405));
     Ok(())
 }

@@ -4,7 +4,8 @@
 use steamgusset::{BINS_BYTES, Block, CtuSet, Offsets, Refusal, Sizes, State, calls};
 
 /// Six CTUs, three in a row, the last of each row and of each column cut short.
-const DESCRIPTION: State = State { width: 40, height: 24, ctb: 16, format: 1, depth: 8, luma: 1, chroma: 1, next: 0 };
+const DESCRIPTION: State =
+    State { width: 40, height: 24, ctb: 16, format: 1, luma_depth: 8, chroma_depth: 10, luma: 1, chroma: 1, next: 0 };
 
 /// A picture and all that is lent with it.
 struct World {
@@ -36,7 +37,7 @@ impl World {
 
     fn deliver(&mut self, component: usize, ctb: usize) {
         let (samples, planes) =
-            (deblocked(self.block(component, ctb)), self.deblocked.each_mut().map(Vec::as_mut_slice));
+            (deblocked(component, self.block(component, ctb)), self.deblocked.each_mut().map(Vec::as_mut_slice));
         calls::deliver(&self.state, component as u32, ctb as u32, &samples, planes, &mut self.marks)
             .expect("delivered");
     }
@@ -44,7 +45,7 @@ impl World {
     /// The same without the call.
     fn write(&mut self, component: usize, ctb: usize) {
         let (block, width) = (self.block(component, ctb), self.sizes.width[component]);
-        let samples = deblocked(block);
+        let samples = deblocked(component, block);
         for (y, row) in (block.y0..block.y1).zip(samples.chunks(block.width())) {
             self.deblocked[component][y * width..][block.x0..block.x1].copy_from_slice(row);
         }
@@ -74,10 +75,11 @@ fn set(ctu: usize) -> CtuSet {
     CtuSet { luma: edge, cb: edge, cr: edge }
 }
 
-/// Samples that go up and down, by their place in the plane.
-fn deblocked(block: Block) -> Vec<u16> {
+/// Samples that go up and down, by their place in the plane, over all of the component's range.
+fn deblocked(component: usize, block: Block) -> Vec<u16> {
+    let all = [256, 1024, 1024][component];
     let rows = block.y0..block.y1;
-    rows.flat_map(|y| (block.x0..block.x1).map(move |x| ((x * x * 7 + y * y * 13 + x * y) % 256) as u16)).collect()
+    rows.flat_map(|y| (block.x0..block.x1).map(move |x| ((x * x * 7 + y * y * 13 + x * y) * 5 % all) as u16)).collect()
 }
 
 #[test]
@@ -106,6 +108,11 @@ fn what_no_accepted_call_leaves_is_refused_where_it_is_used() {
     assert_eq!(world.filter(0, 0), Err(Refusal::Stored));
     assert_eq!(world.filter(0, 1), Err(Refusal::Stored));
     assert_eq!(world.filter(0, 2), Ok(()));
+    // What exceeds luma's depth is within chroma's.
+    world.deblocked[1][8] = 256;
+    assert_eq!(world.filter(1, 0), Ok(()));
+    world.deblocked[2][8] = 1024;
+    assert_eq!(world.filter(2, 0), Err(Refusal::Stored));
     world.marks[3] = 3;
     assert_eq!(world.filter(0, 4), Err(Refusal::Stored));
     assert_eq!(world.filter(0, 5), Ok(()));

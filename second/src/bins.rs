@@ -118,7 +118,7 @@ fn component_bins(picture: &Picture, set: &CtuSet) -> String {
     let components = set.components().into_iter().enumerate();
     components
         .filter(|(component, _)| picture.switch(*component))
-        .map(|(component, set)| component_words(picture.largest_magnitude(), &set, component == 2))
+        .map(|(component, set)| component_words(picture.largest_magnitude(component), &set, component == 2))
         .collect()
 }
 
@@ -221,7 +221,7 @@ fn take_component<'a>(
     if type_index == 0 {
         return Some((ComponentSet::Off, bins));
     }
-    let (magnitudes, bins) = take_magnitudes(picture.largest_magnitude(), bins)?;
+    let (magnitudes, bins) = take_magnitudes(picture.largest_magnitude(component), bins)?;
     if type_index == 1 {
         return take_band(magnitudes, bins);
     }

@@ -72,8 +72,8 @@ pub fn filtered_sample(depth: u8, set: &ComponentSet, plane: &Plane, x: usize, y
     (sample + offset).clamp(0, (1 << depth) - 1) as u16
 }
 
-/// The filtered planes of a whole picture: `sets` has one set within the rules per CTU, `deblocked` samples within the
-/// depth; an absent plane is empty.
+/// The filtered planes of a whole picture: `sets` has one set within the rules per CTU, `deblocked` samples within
+/// each component's depth; an absent plane is empty.
 pub fn filter_picture(picture: &Picture, sets: &[CtuSet], deblocked: [&[u16]; 3]) -> [Vec<u16>; 3] {
     std::array::from_fn(|component| filter_plane(picture, sets, component, deblocked[component]))
 }
@@ -84,7 +84,7 @@ fn filter_plane(picture: &Picture, sets: &[CtuSet], component: usize, samples: &
     let filtered = |place: usize| {
         let (x, y) = (place % width, place / width);
         let set = sets[picture.ctb_at(component, x, y)].components()[component];
-        filtered_sample(picture.depth, &set, &plane, x, y)
+        filtered_sample(picture.depth(component), &set, &plane, x, y)
     };
     (0..samples.len()).map(filtered).collect()
 }

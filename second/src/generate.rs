@@ -8,17 +8,20 @@ use crate::random::Random;
 use crate::sets::{ComponentSet, CtuSet};
 
 /// A description within the rules, at most `most` luma samples wide and high (a multiple of 8), each format as often as
-/// any other.
+/// any other, and with chroma each pair of depths.
 pub fn picture(random: &mut Random, most: u32) -> Picture {
     let mut side = || 8 * (1 + random.below(most as usize / 8) as u32);
     let (width, height) = (side(), side());
     let format = random.below(4) as u8;
+    let mut depth = || 8 + random.below(9) as u8;
+    let (luma_depth, any_depth) = (depth(), depth());
     Picture {
         width,
         height,
         ctb: random.pick(&[16, 16, 32, 64]),
         format,
-        depth: 8 + random.below(9) as u8,
+        luma_depth,
+        chroma_depth: if format == 0 { luma_depth } else { any_depth },
         luma: !random.once_in(5),
         chroma: format != 0 && !random.once_in(5),
     }
@@ -51,11 +54,12 @@ pub fn component(random: &mut Random, largest: u8, type_index: usize, class: u8)
 
 /// A set that the full form can say.
 pub fn set(random: &mut Random, picture: &Picture) -> CtuSet {
-    let largest = picture.largest_magnitude();
     let mut kind = |switch: bool| (if switch { random.below(3) } else { 0 }, random.below(4) as u8);
     let (luma, chroma) = (kind(picture.luma), kind(picture.chroma));
-    let mut make = |(type_index, class)| component(random, largest, type_index, class);
-    CtuSet { luma: make(luma), cb: make(chroma), cr: make(chroma) }
+    let mut make = |of: usize, (type_index, class): (usize, u8)| {
+        component(random, picture.largest_magnitude(of), type_index, class)
+    };
+    CtuSet { luma: make(0, luma), cb: make(1, chroma), cr: make(2, chroma) }
 }
 
 /// One set per CTU, many of them equal to their left or upper neighbour's.
@@ -69,9 +73,9 @@ pub fn sets(random: &mut Random, picture: &Picture) -> Vec<CtuSet> {
     sets
 }
 
-/// One component's samples within the depth: noise, few levels, flat, extreme, or alternating.
+/// One component's samples within its depth: noise, few levels, flat, extreme, or alternating.
 pub fn plane(random: &mut Random, picture: &Picture, component: usize) -> Vec<u16> {
-    let largest = picture.largest_sample();
+    let largest = picture.largest_sample(component);
     let manner = random.below(5);
     let level = random.below(usize::from(largest) + 1) as u16;
     let mut sample = |place: usize| match manner {
@@ -93,16 +97,20 @@ pub fn planes(random: &mut Random, picture: &Picture) -> [Vec<u16>; 3] {
 mod tests {
     use super::*;
 
-    /// Of 10,000 pictures each format has about a quarter, and all keep the rules.
+    /// Of 20,000 pictures each format has about a quarter, each pair of depths about an 81st of those with chroma, and all
+    /// keep the rules.
     #[test]
-    fn the_formats_are_drawn_in_equal_shares() {
+    fn formats_and_pairs_of_depths_are_drawn_in_equal_shares() {
         let mut random = Random::new(4);
-        let mut times = [0; 4];
-        for _ in 0..10_000 {
+        let (mut formats, mut pairs) = ([0; 4], [[0; 9]; 9]);
+        for _ in 0..20_000 {
             let picture = picture(&mut random, 72);
             assert!(!picture.breaks_a_rule(), "{picture:?}");
-            times[usize::from(picture.format)] += 1;
+            formats[usize::from(picture.format)] += 1;
+            let [luma, chroma] = picture.depths().map(|depth| usize::from(depth) - 8);
+            pairs[luma][chroma] += usize::from(picture.format != 0);
         }
-        assert!(times.iter().all(|times| (2_000..=3_000).contains(times)), "{times:?}");
+        assert!(formats.iter().all(|times| (4_000..=6_000).contains(times)), "{formats:?}");
+        assert!(pairs.iter().flatten().all(|times| (100..=300).contains(times)), "{pairs:?}");
     }
 }

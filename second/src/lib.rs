@@ -1,5 +1,5 @@
-//! The second program: the stage of document 01 (sample adaptive offset), with the formats that document 02 adds (K1),
-//! once more, by another method, to judge the stage that is proved.
+//! The second program: the stage of document 01 (sample adaptive offset), with the formats and the depth of chroma's own
+//! that document 02 adds (K1, K3), once more, by another method, to judge the stage that is proved.
 //!
 //! Written from these documents and ITU-T H.265 (04/2013) 6.2, 7.3.8.3, 7.4.9.3, 8.7.3 and 9.3.3 alone. Where a receiver
 //! would be quick, this is plain:

@@ -147,10 +147,13 @@ fn name(file: &str) -> String {
 }
 
 fn line(picture: &Picture, tally: &Tally) -> String {
-    let Picture { width, height, ctb, depth, .. } = picture;
+    let Picture { width, height, ctb, luma_depth, chroma_depth, .. } = picture;
     let format = ["monochrome", "4:2:0", "4:2:2", "4:4:4"][usize::from(picture.format)];
+    let depths = if luma_depth == chroma_depth {
+        format!("depth {luma_depth}")
+    } else {
+        format!("luma depth {luma_depth}, chroma depth {chroma_depth}")
+    };
     let Tally { ctus, changed, samples, .. } = tally;
-    format!(
-        "{width}x{height}, CTB size {ctb}, {format}, depth {depth}, CTUs {ctus}, {changed} of {samples} samples changed"
-    )
+    format!("{width}x{height}, CTB size {ctb}, {format}, {depths}, CTUs {ctus}, {changed} of {samples} samples changed")
 }

@@ -13,7 +13,10 @@ pub struct Picture {
     pub ctb: u32,
     /// ChromaArrayType: 0 monochrome, 1 is 4:2:0, 2 is 4:2:2, 3 is 4:4:4.
     pub format: u8,
-    pub depth: u8,
+    /// BitDepthY.
+    pub luma_depth: u8,
+    /// BitDepthC, of Cb and Cr; in monochrome it equals luma's.
+    pub chroma_depth: u8,
     /// The switch that says whether luma is filtered.
     pub luma: bool,
     /// The switch that says whether Cb and Cr are filtered.
@@ -55,15 +58,37 @@ impl Block {
 }
 
 impl Picture {
-    /// Reason 1, from which document 02 (K1) takes 4:2:2 and 4:4:4.
+    /// The picture of document 01's cases: monochrome, depth 8, luma on.
+    pub const MONOCHROME: Picture =
+        Picture { width: 8, height: 8, ctb: 16, format: 0, luma_depth: 8, chroma_depth: 8, luma: true, chroma: false };
+
+    /// Every pair of depths, luma's and chroma's, that the rules allow beside chroma planes.
+    pub fn pairs_of_depths() -> impl Iterator<Item = [u8; 2]> {
+        (8..=16).flat_map(|luma| (8..=16).map(move |chroma| [luma, chroma]))
+    }
+
+    /// The picture with this depth of luma and this one of chroma.
+    pub const fn at_depths(self, [luma_depth, chroma_depth]: [u8; 2]) -> Picture {
+        Picture { luma_depth, chroma_depth, ..self }
+    }
+
+    /// Luma's depth and chroma's.
+    pub const fn depths(&self) -> [u8; 2] {
+        [self.luma_depth, self.chroma_depth]
+    }
+
+    /// Reason 1, from which document 02 (K1) takes 4:2:2 and 4:4:4, and to which it adds chroma's depth (K3).
     pub fn breaks_a_rule(&self) -> bool {
         let bad_side = |side: u32| !side.is_multiple_of(8) || !(8..=8192).contains(&side);
+        let bad_depth = |depth: u8| !(8..=16).contains(&depth);
+        let [luma_depth, chroma_depth] = self.depths();
         bad_side(self.width)
             || bad_side(self.height)
             || ![16, 32, 64].contains(&self.ctb)
             || self.format > 3
-            || !(8..=16).contains(&self.depth)
-            || (self.format == 0 && self.chroma)
+            || bad_depth(luma_depth)
+            || bad_depth(chroma_depth)
+            || (self.format == 0 && (self.chroma || chroma_depth != luma_depth))
     }
 
     /// How many planes the format has: luma alone, or luma, Cb and Cr.
@@ -187,14 +212,19 @@ impl Picture {
         all.filter(|(_, other)| own.touches(other)).map(|(number, _)| number).collect()
     }
 
-    /// The largest sample, 2^depth - 1.
-    pub fn largest_sample(&self) -> u16 {
-        u16::MAX >> (16 - self.depth)
+    /// A component's own depth: BitDepthY for luma, BitDepthC for Cb and Cr.
+    pub fn depth(&self, component: usize) -> u8 {
+        if component == 0 { self.luma_depth } else { self.chroma_depth }
     }
 
-    /// M, the largest magnitude: 2^(min(depth, 10) - 5) - 1.
-    pub fn largest_magnitude(&self) -> u8 {
-        (1 << (self.depth.min(10) - 5)) - 1
+    /// A component's largest sample, 2^depth - 1.
+    pub fn largest_sample(&self, component: usize) -> u16 {
+        u16::MAX >> (16 - self.depth(component))
+    }
+
+    /// M, a component's largest magnitude: 2^(min(depth, 10) - 5) - 1.
+    pub fn largest_magnitude(&self, component: usize) -> u8 {
+        (1 << (self.depth(component).min(10) - 5)) - 1
     }
 
     /// Whether a component is filtered at all.
@@ -213,7 +243,7 @@ mod tests {
     use super::*;
 
     /// Three columns and two rows, the last of each cut short to half and to 8 samples.
-    const SIX: Picture = Picture { width: 40, height: 24, ctb: 16, format: 1, depth: 8, luma: true, chroma: true };
+    const SIX: Picture = Picture { width: 40, height: 24, format: 1, chroma: true, ..Picture::MONOCHROME };
 
     #[test]
     fn the_planes_are_cut_into_the_blocks() {

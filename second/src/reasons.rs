@@ -185,7 +185,7 @@ pub fn refusal(call: Kind, seen: &Seen) -> Option<Refusal> {
 
 /// A description that breaks a rule describes no picture. The other rows are asked all the same, and then speak of this
 /// one; what they answer does not matter, since row 1 comes before them.
-const STANDING_IN: Picture = Picture { width: 8, height: 8, ctb: 16, format: 0, depth: 8, luma: false, chroma: false };
+const STANDING_IN: Picture = Picture { luma: false, ..Picture::MONOCHROME };
 
 fn breaks_a_rule(seen: &Seen) -> bool {
     seen.state.picture.breaks_a_rule()
@@ -240,9 +240,9 @@ fn ctus(seen: &Seen) -> usize {
     picture(seen).ctbs(0).count()
 }
 
-/// "2^depth - 1".
+/// "2^depth - 1", by the depth of the component that the call names.
 fn largest_sample(seen: &Seen) -> u32 {
-    2u32.pow(picture(seen).depth.into()) - 1
+    2u32.pow(picture(seen).depth(seen.component.into()).into()) - 1
 }
 
 // The next CTU.

@@ -9,7 +9,7 @@ use crate::reasons::Refusal;
 use crate::sets::CtuSet;
 use crate::world::{Answer, Call, Value, World, apply};
 
-/// The longest CTU at any depth has 405 bins.
+/// The longest CTU at any depths has 405 bins.
 const OUT_BYTES: usize = 405usize.div_ceil(8);
 
 /// What a replay did.

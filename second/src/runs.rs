@@ -91,24 +91,34 @@ impl Script {
 
     fn outside_rules(&mut self, set: CtuSet) -> CtuSet {
         let offsets = [0; 4];
-        match self.random.below(4) {
+        let too_large = |component| self.picture.largest_magnitude(component) as i8 + 1;
+        let band = |offset| ComponentSet::Band { position: 0, offsets: [0, 0, 0, offset] };
+        match self.random.below(7) {
             0 => CtuSet { luma: ComponentSet::Band { position: 32, offsets }, ..set },
             1 => CtuSet { cb: ComponentSet::Edge { class: 9, offsets }, ..set },
             2 => CtuSet { cr: ComponentSet::Band { position: 0, offsets: [-128; 4] }, ..set },
-            _ => CtuSet { luma: ComponentSet::Edge { class: 0, offsets: [0, 0, 1, 0] }, ..set },
+            3 => CtuSet { luma: ComponentSet::Edge { class: 0, offsets: [0, 0, 1, 0] }, ..set },
+            // By the component's own depth; by the other it may be within the rules.
+            4 => CtuSet { luma: band(too_large(0)), ..set },
+            5 => CtuSet { cb: band(-too_large(1)), cr: band(0), ..set },
+            _ => CtuSet { cb: band(0), cr: band(too_large(2)), ..set },
         }
     }
 
-    /// A CTB's samples, sometimes too many or above the depth.
+    /// A CTB's samples, sometimes too many or above the component's own depth, though not always above the other.
     fn deliver(&mut self, component: u8, ctb: u32) -> Call {
-        let exists = usize::from(component) < self.picture.components() && (ctb as usize) < self.picture.ctus();
+        let of = usize::from(component);
+        let exists = of < self.picture.components() && (ctb as usize) < self.picture.ctus();
         let mut samples = Vec::new();
         if exists {
             samples = block_samples(&self.picture, &self.deblocked, component, ctb);
         }
         match self.random.below(12) {
             0 => samples.push(0),
-            1 if self.picture.depth < 16 => samples.iter_mut().take(9).for_each(|sample| *sample |= 1 << 15),
+            1 if self.picture.depth(of) < 16 => {
+                let above = self.picture.largest_sample(of) + 1;
+                samples.iter_mut().take(9).for_each(|sample| *sample |= above);
+            }
             _ => {}
         }
         Call::Deliver { component, ctb, samples }
@@ -132,17 +142,32 @@ impl Script {
 
     fn broken_description(&mut self) -> Picture {
         let picture = self.picture;
-        match self.random.below(8) {
+        match self.random.below(11) {
             0 => Picture { width: self.random.pick(&[0, 4, picture.width + 4, 8200, u32::MAX]), ..picture },
             1 => Picture { height: self.random.pick(&[0, 4, picture.height + 4, 8200, u32::MAX]), ..picture },
             2 => Picture { ctb: self.random.pick(&[0, 8, 128, u32::MAX]), ..picture },
             3 => Picture { format: self.random.pick(&[4, 128, 255]), ..picture },
-            4 => Picture { depth: self.random.pick(&[0, 7, 17, 255]), ..picture },
-            5 => Picture { format: 0, chroma: true, ..picture },
+            4..=6 => self.wrong_depths(),
+            7 => Picture { format: 0, chroma_depth: picture.luma_depth, chroma: true, ..picture },
             // Keeps the rules, mostly beside planes of other sizes.
-            6 => Picture { format: self.random.pick(&[1, 2, 3]), ..picture },
-            // Keeps the rules and changes the meaning of all that is stored.
-            _ => Picture { depth: 8, luma: !picture.luma, ..picture },
+            8 => Picture { format: self.random.pick(&[1, 2, 3]), ..picture },
+            // Keep the rules and change the meaning of all that is stored.
+            9 => picture.at_depths([picture.chroma_depth, picture.luma_depth]),
+            _ => Picture { luma: !picture.luma, ..picture.at_depths([8, 8]) },
+        }
+    }
+
+    /// The description with depths that break a rule: both or one of them outside, or in monochrome two within that differ.
+    pub fn wrong_depths(&mut self) -> Picture {
+        let picture = self.picture;
+        let outside = self.random.pick(&[0, 7, 17, 255]);
+        // Any of the other eight, counted on from luma's.
+        let another = 8 + (picture.luma_depth - 7 + self.random.below(8) as u8) % 9;
+        match self.random.below(4) {
+            0 => picture.at_depths([outside; 2]),
+            1 => Picture { luma_depth: outside, ..picture },
+            2 => Picture { chroma_depth: outside, ..picture },
+            _ => Picture { format: 0, chroma_depth: another, chroma: false, ..picture },
         }
     }
 

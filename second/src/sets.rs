@@ -65,7 +65,7 @@ impl CtuSet {
 }
 
 fn component_within_rules(picture: &Picture, component: usize, set: &ComponentSet) -> bool {
-    let most = i64::from(picture.largest_magnitude());
+    let most = i64::from(picture.largest_magnitude(component));
     let sayable = set.offsets().iter().all(|&offset| i64::from(offset).abs() <= most);
     match *set {
         ComponentSet::Off => true,
@@ -93,21 +93,37 @@ fn shares_with_cb(cb: &ComponentSet, cr: &ComponentSet) -> bool {
 mod tests {
     use super::*;
 
-    /// Every value of every offset, at every depth, beside the range that document 01 gives for it.
+    /// Every value of every offset of each component, at every pair of depths, beside the range that document 01 gives for
+    /// it at the component's own.
     #[test]
     fn every_offset_is_judged() {
-        for depth in 8..=16 {
-            let picture = Picture { width: 8, height: 8, ctb: 16, format: 0, depth, luma: true, chroma: false };
-            let most = [7, 15, 31][usize::from(depth.min(10)) - 8];
-            let ranges = [0..=most, 0..=most, -most..=0, -most..=0];
-            for (place, value) in (0..4).flat_map(|place| (i8::MIN..=i8::MAX).map(move |value| (place, value))) {
-                let mut offsets = [0; 4];
-                offsets[place] = value;
-                let judged = |set| CtuSet::of_luma(set).within_rules(&picture);
-                let in_band = (-most..=most).contains(&value);
-                assert_eq!(judged(ComponentSet::Band { position: 0, offsets }), in_band);
-                assert_eq!(judged(ComponentSet::Edge { class: 0, offsets }), ranges[place].contains(&value));
+        for depths @ [luma, chroma] in Picture::pairs_of_depths() {
+            let picture = Picture { format: 1, chroma: true, ..Picture::MONOCHROME }.at_depths(depths);
+            for (component, depth) in [luma, chroma, chroma].into_iter().enumerate() {
+                let most = [7, 15, 31][usize::from(depth.min(10)) - 8];
+                every_offset_of_one(&picture, component, most);
             }
         }
+    }
+
+    fn every_offset_of_one(picture: &Picture, component: usize, most: i8) {
+        let ranges = [0..=most, 0..=most, -most..=0, -most..=0];
+        for (place, value) in (0..4).flat_map(|place| (i8::MIN..=i8::MAX).map(move |value| (place, value))) {
+            let mut offsets = [0; 4];
+            offsets[place] = value;
+            let judged = |set| among_others_like(set, component).within_rules(picture);
+            let in_band = (-most..=most).contains(&value);
+            assert_eq!(judged(ComponentSet::Band { position: 0, offsets }), in_band);
+            assert_eq!(judged(ComponentSet::Edge { class: 0, offsets }), ranges[place].contains(&value));
+        }
+    }
+
+    /// The component's set beside others of its type whose offsets are 0.
+    fn among_others_like(set: ComponentSet, component: usize) -> CtuSet {
+        let plain = match set {
+            ComponentSet::Edge { class, .. } => ComponentSet::Edge { class, offsets: [0; 4] },
+            _ => ComponentSet::Band { position: 0, offsets: [0; 4] },
+        };
+        CtuSet::of(std::array::from_fn(|other| if other == component { set } else { plain }))
     }
 }

@@ -104,7 +104,7 @@ pub fn filter(
     let plane = Plane { samples: deblocked[of], width };
     let set = own_set(state, table, of, at);
     for (x, y) in state.picture.block(of, at).places() {
-        filtered[of][y * width + x] = filtered_sample(state.picture.depth, &set, &plane, x, y);
+        filtered[of][y * width + x] = filtered_sample(state.picture.depth(of), &set, &plane, x, y);
     }
     marks[state.picture.mark_place(of, at)] = FILTERED;
     (Ok(()), state)

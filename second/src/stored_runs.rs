@@ -197,9 +197,10 @@ fn two(number: usize) -> [u8; 2] {
 }
 
 fn state_bytes(state: &State) -> Vec<u8> {
-    let Picture { width, height, ctb, format, depth, luma, chroma } = state.picture;
+    let Picture { width, height, ctb, format, luma_depth, chroma_depth, luma, chroma } = state.picture;
     let sizes = [width, height, ctb].map(u32::to_le_bytes).concat();
-    [sizes, vec![format, depth, luma.into(), chroma.into()], state.next.to_le_bytes().to_vec()].concat()
+    let single = vec![format, luma_depth, chroma_depth, luma.into(), chroma.into()];
+    [sizes, single, state.next.to_le_bytes().to_vec()].concat()
 }
 
 // What is kept, and what comes of a command.
@@ -224,7 +225,7 @@ pub struct Made {
 impl Machine {
     /// As the proved program begins.
     pub fn new() -> Machine {
-        let none = Picture { width: 0, height: 0, ctb: 0, format: 0, depth: 0, luma: false, chroma: false };
+        let none = Picture { width: 0, height: 0, ctb: 0, luma: false, ..Picture::MONOCHROME.at_depths([0, 0]) };
         let plane = |buffer: usize| vec![0; WHOLE[buffer]];
         let whole = World {
             deblocked: [0, 1, 2].map(plane),
@@ -316,9 +317,9 @@ impl Machine {
     /// The sums of the state, the deblocked planes, the filtered planes, the marks and the table: of each what is lent
     /// and what comes after it, as far as the guard goes.
     fn sums(&self) -> String {
-        let Picture { width, height, ctb, format, depth, luma, chroma } = self.state.picture;
-        let state: [u32; 8] =
-            [width, height, ctb, format.into(), depth.into(), luma.into(), chroma.into(), self.state.next];
+        let Picture { width, height, ctb, format, luma_depth, chroma_depth, luma, chroma } = self.state.picture;
+        let single = [format, luma_depth, chroma_depth, luma.into(), chroma.into()].map(u32::from);
+        let state = [&[width, height, ctb][..], &single, &[self.state.next]].concat();
         let World { deblocked, filtered, marks, table } = &self.whole;
         let end = |buffer: usize| (self.lengths[buffer] + GUARD).min(WHOLE[buffer]);
         let planes = |planes: &[Vec<u16>; 3], first: usize| {

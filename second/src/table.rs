@@ -96,7 +96,7 @@ fn looked_up(page: &Page, six: &[u8]) -> Option<[i8; COMPONENT]> {
 
 /// The set of one component; nothing if its six bytes stand on no page. "A component whose switch is off is off."
 fn component(picture: &Picture, component: usize, six: &[u8]) -> Option<ComponentSet> {
-    let (_, pages) = DICTIONARIES.iter().find(|(most, _)| *most == picture.largest_magnitude())?;
+    let (_, pages) = DICTIONARIES.iter().find(|(most, _)| *most == picture.largest_magnitude(component))?;
     let pages = if picture.switch(component) { &pages[..] } else { &pages[..1] };
     let [kind, second, offsets @ ..] = pages.iter().find_map(|page| looked_up(page, six))?;
     match kind {
@@ -130,7 +130,7 @@ pub fn store(table: &mut [u8], ctu: usize, set: &CtuSet) {
 mod tests {
     use super::*;
 
-    const PICTURE: Picture = Picture { width: 8, height: 8, ctb: 16, format: 1, depth: 8, luma: true, chroma: true };
+    const PICTURE: Picture = Picture { format: 1, chroma: true, ..Picture::MONOCHROME };
 
     fn luma_entry(six: [u8; 6]) -> [u8; ENTRY_BYTES] {
         std::array::from_fn(|place| six.get(place).copied().unwrap_or(0))
@@ -166,15 +166,17 @@ mod tests {
         Some(CtuSet::of([part(0)?, part(1)?, part(2)?]))
     }
 
-    /// Every value of every byte of an off, a band and an edge, beside the rules of a set.
+    /// Every value of every byte of an off, a band and an edge, beside the rules of a set: at every depth, and at two
+    /// depths of which either has the larger M.
     #[test]
     fn the_dictionaries_say_the_rules() {
         let band = ComponentSet::Band { position: 3, offsets: [1, -1, 0, 7] };
         let edge = ComponentSet::Edge { class: 1, offsets: [7, 0, 0, -1] };
         let sets = [ComponentSet::Off, band, edge].map(|set| CtuSet::of([set; 3]));
         let switches = [(true, true), (true, false), (false, true), (false, false)];
-        for (depth, (luma, chroma)) in (8..=16).flat_map(|depth| switches.map(|switches| (depth, switches))) {
-            let picture = Picture { depth, luma, chroma, ..PICTURE };
+        let depths = (8..=16).map(|depth| [depth; 2]).chain([[8, 9], [9, 8], [10, 8], [8, 16], [9, 12], [16, 9]]);
+        for (depths, (luma, chroma)) in depths.flat_map(|depths| switches.map(|switches| (depths, switches))) {
+            let picture = Picture { luma, chroma, ..PICTURE }.at_depths(depths);
             for (set, place) in sets.iter().flat_map(|set| (0..ENTRY_BYTES).map(move |place| (set, place))) {
                 let mut entry = encode(set);
                 for byte in 0..=u8::MAX {

@@ -3,7 +3,7 @@
 //! Method: the bytes are read part after part as the format lists them, each part checked against what the parts before
 //! it say. A damaged file gives a sentence, never a panic; nothing is made that the file has no bytes for, and nothing is
 //! read after the byte that shows a file to go on too long, nor after a header whose picture is not covered. Covered is
-//! what document 01 speaks of, and the formats that document 02 adds to it (K1).
+//! what document 01 speaks of, and what document 02 adds to it: formats (K1) and a depth of chroma's own (K3).
 
 use crate::picture::Picture;
 use crate::sets::{ComponentSet, CtuSet};
@@ -51,15 +51,15 @@ pub struct Header {
     pub width: usize,
     pub height: usize,
     pub chroma_format_idc: u8,
-    pub depth_luma: u8,
-    pub depth_chroma: u8,
+    pub luma_depth: u8,
+    pub chroma_depth: u8,
     pub ctb_log2: u32,
     pub min_cb_log2: u32,
     pub columns: usize,
     pub rows: usize,
     /// log2_sao_offset_scale of luma and chroma.
-    pub scale_luma: u8,
-    pub scale_chroma: u8,
+    pub luma_scale: u8,
+    pub chroma_scale: u8,
     pub pcm_loop_filter_disabled: bool,
     pub tile_columns: usize,
     pub tile_rows: usize,
@@ -225,14 +225,15 @@ impl Vector {
         self.header.not_covered().or_else(|| several_slices.then(|| "it has several slices".to_string()))
     }
 
-    /// Whether such a picture is covered: of any format, one depth, above 10 bits scaled by the 2013 rule, one slice, one
+    /// Whether such a picture is covered: of any format and depths, above 10 bits scaled by the 2013 rule, one slice, one
     /// tile and no kept sample.
     pub fn is_covered(&self) -> bool {
         self.not_covered().is_none()
     }
 
     /// The description of a picture that is covered: its one slice's flags are the two switches. By 7.4.3.2 a plane that
-    /// is coded apart from the other two is decoded as a monochrome picture, and described as one.
+    /// is coded apart from the other two is decoded as a monochrome picture, and described as one. Without chroma the
+    /// file's depth of it says nothing, and luma's stands in its place.
     pub fn picture(&self) -> Picture {
         let header = &self.header;
         let slice = &self.segments[0];
@@ -241,7 +242,8 @@ impl Vector {
             height: header.height as u32,
             ctb: 1 << header.ctb_log2,
             format: header.chroma_array_type,
-            depth: header.depth_luma,
+            luma_depth: header.luma_depth,
+            chroma_depth: if header.planes() == 3 { header.chroma_depth } else { header.luma_depth },
             luma: slice.luma,
             chroma: slice.chroma,
         }
@@ -273,14 +275,14 @@ impl Header {
             width: within(fields[0], 8, 65535, "width")?,
             height: within(fields[1], 8, 65535, "height")?,
             chroma_format_idc: within(fields[2], 0, 3, "chroma_format_idc")?,
-            depth_luma: within(fields[3], 8, 16, "luma depth")?,
-            depth_chroma: within(fields[4], 8, 16, "chroma depth")?,
+            luma_depth: within(fields[3], 8, 16, "luma depth")?,
+            chroma_depth: within(fields[4], 8, 16, "chroma depth")?,
             ctb_log2: within(fields[5], 4, 6, "logarithm of the CTB size")?,
             min_cb_log2: within(fields[6], 3, fields[5], "logarithm of the smallest coding block size")?,
             columns: within(fields[7], 1, 4096, "number of CTB columns")?,
             rows: within(fields[8], 1, 4096, "number of CTB rows")?,
-            scale_luma: within(fields[9], 0, largest_scale(fields[3]), "log2_sao_offset_scale_luma")?,
-            scale_chroma: within(fields[10], 0, largest_scale(fields[4]), "log2_sao_offset_scale_chroma")?,
+            luma_scale: within(fields[9], 0, largest_scale(fields[3]), "log2_sao_offset_scale_luma")?,
+            chroma_scale: within(fields[10], 0, largest_scale(fields[4]), "log2_sao_offset_scale_chroma")?,
             pcm_loop_filter_disabled: within::<u8>(fields[11], 0, 1, "pcm_loop_filter_disabled_flag")? == 1,
             tile_columns: within(fields[13], 1, fields[7], "number of tile columns")?,
             tile_rows: within(fields[14], 1, fields[8], "number of tile rows")?,
@@ -317,24 +319,35 @@ impl Header {
 
     /// Why by the header alone the picture is not covered, or nothing.
     pub fn not_covered(&self) -> Option<String> {
-        let chroma = self.planes() == 3;
-        let Header { width, height, depth_luma, depth_chroma, scale_luma, scale_chroma, .. } = *self;
-        // Document 01 multiplies every offset by 2 to this power.
-        let shift = depth_luma - depth_luma.min(10);
-        let sent =
-            |scale: u8, what: &str| format!("it sends scale {scale} for {what}, where the 2013 rule has {shift}");
+        let Header { width, height, .. } = *self;
+        let too_large = width > LARGEST_SIDE || height > LARGEST_SIDE;
+        let several_tiles = self.tile_columns > 1 || self.tile_rows > 1;
         let reasons = [
-            (
-                width > LARGEST_SIDE || height > LARGEST_SIDE,
-                format!("its size is {width}x{height}, above {LARGEST_SIDE}"),
-            ),
-            (chroma && depth_luma != depth_chroma, format!("it has the depths {depth_luma} and {depth_chroma}")),
-            (scale_luma != shift, sent(scale_luma, "luma")),
-            (chroma && scale_chroma != shift, sent(scale_chroma, "chroma")),
-            (self.tile_columns > 1 || self.tile_rows > 1, "it has several tiles".to_string()),
-            (self.keeps_a_sample(), "it has lossless or PCM units that keep their samples".to_string()),
+            too_large.then(|| format!("its size is {width}x{height}, above {LARGEST_SIDE}")),
+            self.scaled_otherwise(),
+            several_tiles.then(|| "it has several tiles".to_string()),
+            self.keeps_a_sample().then(|| "it has lossless or PCM units that keep their samples".to_string()),
         ];
-        reasons.into_iter().find_map(|(holds, why)| holds.then_some(why))
+        reasons.into_iter().flatten().next()
+    }
+
+    /// Which component present is sent another scale than the 2013 rule has at its depth, or nothing.
+    fn scaled_otherwise(&self) -> Option<String> {
+        let Header { luma_depth, chroma_depth, .. } = *self;
+        let luma = ("luma", luma_depth, self.luma_scale);
+        let chroma = (self.planes() == 3).then_some(("chroma", chroma_depth, self.chroma_scale));
+        let depths = match chroma {
+            Some(_) if luma_depth != chroma_depth => {
+                format!("has luma depth {luma_depth}, chroma depth {chroma_depth} and ")
+            }
+            _ => String::new(),
+        };
+        [luma].into_iter().chain(chroma).find_map(|(what, depth, scale)| {
+            // Document 01 multiplies the offsets by 2 to this power.
+            let shift = depth - depth.min(10);
+            (scale != shift)
+                .then(|| format!("it {depths}sends scale {scale} for {what}, where the 2013 rule has {shift}"))
+        })
     }
 
     /// Whether a lossless unit, or a PCM unit with its loop filtering disabled, keeps samples from the filter: the header
@@ -426,7 +439,7 @@ fn planes(rest: &mut Rest, header: &Header, part: &str) -> Result<[Vec<u16>; 3],
     for (component, plane) in planes.iter_mut().enumerate() {
         let bytes = rest.take(2 * header.plane_samples(component), part)?;
         *plane = bytes.chunks(2).map(|pair| u16::from_le_bytes([pair[0], pair[1]])).collect();
-        let depth = if component == 0 { header.depth_luma } else { header.depth_chroma };
+        let depth = if component == 0 { header.luma_depth } else { header.chroma_depth };
         if let Some(sample) = plane.iter().find(|&&sample| sample > u16::MAX >> (16 - depth)) {
             return Err(Fault::Damaged(format!("the {part} have a sample of {sample}, above depth {depth}")));
         }

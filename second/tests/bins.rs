@@ -37,22 +37,27 @@ fn one_ctu(random: &mut Random, picture: Picture) {
 }
 
 #[test]
-fn written_and_read_at_every_depth() {
-    for depth in 8..=16 {
-        let mut random = Random::new(depth.into());
-        for _ in 0..200 {
+fn written_and_read_at_every_pair_of_depths() {
+    let mut random = Random::new(8);
+    for depths in Picture::pairs_of_depths() {
+        for _ in 0..25 {
             let switches = random.pick(&[(true, true), (true, true), (true, false), (false, true), (false, false)]);
-            one_ctu(&mut random, Picture { depth, luma: switches.0, chroma: switches.1, ..NINE });
+            one_ctu(&mut random, Picture { luma: switches.0, chroma: switches.1, ..NINE.at_depths(depths) });
         }
     }
 }
 
+/// The longest CTU at depth 8, 9 and 10 of luma, down, and of chroma, across; above 10 it is that of 10.
+const LONGEST: [[usize; 3]; 3] = [[117, 181, 309], [149, 213, 341], [213, 277, 405]];
+
 #[test]
 fn the_longest_ctu() {
-    for (depth, longest) in [(8, 117), (9, 213), (10, 405), (11, 405), (13, 405), (16, 405)] {
-        let picture = Picture { depth, ..NINE };
-        let most = picture.largest_magnitude() as i8;
-        let set = CtuSet::of([band(31, [-most; 4]); 3]);
+    for depths in Picture::pairs_of_depths() {
+        let picture = NINE.at_depths(depths);
+        let [luma, chroma] = depths.map(|depth| usize::from(depth.min(10)) - 8);
+        let longest = LONGEST[luma][chroma];
+        let most = [0, 1, 2].map(|component| picture.largest_magnitude(component) as i8);
+        let set = CtuSet::of(most.map(|most| band(31, [-most; 4])));
         let bins = bins::written(&picture, Some(CtuSet::OFF), Some(CtuSet::OFF), &set);
         assert_eq!(bins.map(|bins| bins.len()), Some(longest));
         let mut random = Random::new(1);

@@ -36,10 +36,11 @@ fn vectors_agree() {
     let arguments: Vec<&str> = ["vectors"].into_iter().chain(files.iter().map(String::as_str)).collect();
     let (status, lines, error) = second(&arguments);
     assert_eq!((status, error.as_str()), (Some(0), ""));
-    assert_eq!(lines.lines().filter(|line| line.ends_with(": agrees")).count(), 46);
+    assert_eq!(lines.lines().filter(|line| line.ends_with(": agrees")).count(), 47);
     let named = |format: &str| lines.lines().filter(|line| line.contains(format)).count();
-    assert_eq!([", monochrome, ", ", 4:2:0, ", ", 4:2:2, ", ", 4:4:4, "].map(named), [3, 23, 3, 17]);
-    assert!(lines.ends_with("\n46 agree, 0 differ, 0 not covered, 0 damaged, 0 cannot be read\n"), "{lines}");
+    assert_eq!([", monochrome, ", ", 4:2:0, ", ", 4:2:2, ", ", 4:4:4, "].map(named), [3, 24, 3, 17]);
+    assert_eq!([", depth ", ", luma depth 8, chroma depth 10, "].map(named), [46, 1]);
+    assert!(lines.ends_with("\n47 agree, 0 differ, 0 not covered, 0 damaged, 0 cannot be read\n"), "{lines}");
 }
 
 #[test]

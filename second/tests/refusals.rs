@@ -80,8 +80,12 @@ fn judge(undamaged: Scene, damages: &[Damage], numbers: &[u8]) {
     }
 }
 
-fn wrong_depth(scene: &mut Scene) {
-    scene.state.picture.depth = 17;
+fn wrong_luma_depth(scene: &mut Scene) {
+    scene.state.picture.luma_depth = 17;
+}
+
+fn wrong_chroma_depth(scene: &mut Scene) {
+    scene.state.picture.chroma_depth = 7;
 }
 
 fn no_such_component(scene: &mut Scene) {
@@ -109,8 +113,12 @@ fn give_bins(scene: &mut Scene, given: u8, declared: usize) {
 
 #[test]
 fn open() {
-    let damages: [Damage; 3] =
-        [(1, wrong_depth), (2, |scene| scene.world.marks.push(0)), (2, |scene| scene.world.marks.truncate(5))];
+    let damages: [Damage; 4] = [
+        (1, wrong_luma_depth),
+        (1, wrong_chroma_depth),
+        (2, |scene| scene.world.marks.push(0)),
+        (2, |scene| scene.world.marks.truncate(5)),
+    ];
     judge(scene(u32::MAX, Call::Open), &damages, &[1, 2]);
 }
 
@@ -118,8 +126,9 @@ fn open() {
 fn read() {
     // "00", luma off, chroma off.
     let undamaged = scene(MIDDLE, Call::Read { bins: vec![0], count: 4 });
-    let damages: [Damage; 9] = [
-        (1, wrong_depth),
+    let damages: [Damage; 10] = [
+        (1, wrong_luma_depth),
+        (1, wrong_chroma_depth),
         (2, |scene| scene.world.table.push(0)),
         (14, |scene| scene.state.next = 10),
         (7, |scene| scene.state.next = 9),
@@ -150,8 +159,9 @@ fn write() {
             set.luma = wanted;
         }
     }
-    let damages: [Damage; 11] = [
-        (1, wrong_depth),
+    let damages: [Damage; 12] = [
+        (1, wrong_luma_depth),
+        (1, wrong_chroma_depth),
         (2, |scene| scene.world.table.truncate(17)),
         (14, |scene| scene.state.next = u32::MAX),
         (7, |scene| scene.state.next = 9),
@@ -180,8 +190,9 @@ fn deliver() {
             _ => unreachable!("the scene delivers"),
         }
     }
-    let damages: [Damage; 14] = [
-        (1, wrong_depth),
+    let damages: [Damage; 15] = [
+        (1, wrong_luma_depth),
+        (1, wrong_chroma_depth),
         (2, |scene| scene.world.deblocked[0].push(0)),
         (2, |scene| scene.world.deblocked[1].clear()),
         (2, |scene| scene.world.deblocked[2].push(0)),
@@ -202,8 +213,9 @@ fn deliver() {
 #[test]
 fn filter() {
     let undamaged = scene(9, Call::Filter { component: CB, ctb: MIDDLE });
-    let damages: [Damage; 22] = [
-        (1, wrong_depth),
+    let damages: [Damage; 23] = [
+        (1, wrong_luma_depth),
+        (1, wrong_chroma_depth),
         (2, |scene| scene.world.deblocked[0].push(0)),
         (2, |scene| scene.world.deblocked[1].push(0)),
         (2, |scene| scene.world.deblocked[2].push(0)),
@@ -235,8 +247,9 @@ fn filter() {
 #[test]
 fn finished_rows() {
     let undamaged = scene(9, Call::FinishedRows { component: CB });
-    let damages: [Damage; 8] = [
-        (1, wrong_depth),
+    let damages: [Damage; 9] = [
+        (1, wrong_luma_depth),
+        (1, wrong_chroma_depth),
         (2, |scene| scene.world.filtered[0].push(0)),
         (2, |scene| scene.world.filtered[1].push(0)),
         (2, |scene| scene.world.filtered[2].clear()),
@@ -248,6 +261,16 @@ fn finished_rows() {
     judge(undamaged, &damages, &[1, 2, 14, 3, 14]);
 }
 
+/// Either depth outside, or both.
+fn outside_8_to_16() -> impl Iterator<Item = Picture> {
+    let depths = [0, 7, 17, 255].into_iter().flat_map(|depth| [[depth, 8], [8, depth], [16, depth], [depth, depth]]);
+    depths.flat_map(|depths| [NINE.at_depths(depths), in_monochrome(depths)])
+}
+
+fn in_monochrome(depths: [u8; 2]) -> Picture {
+    Picture { format: 0, chroma: false, ..NINE.at_depths(depths) }
+}
+
 #[test]
 fn descriptions_that_break_a_rule() {
     let side = [0, 1, 4, 12, 8193, 8200, u32::MAX];
@@ -255,8 +278,9 @@ fn descriptions_that_break_a_rule() {
     let broken = broken
         .chain([0, 8, 24, 63, 128, u32::MAX].map(|ctb| Picture { ctb, ..NINE }))
         .chain([4, 128, 255].map(|format| Picture { format, ..NINE }))
-        .chain([0, 7, 17, 255].map(|depth| Picture { depth, ..NINE }))
-        .chain([Picture { chroma: true, ..MONOCHROME }]);
+        .chain(outside_8_to_16())
+        .chain([Picture { chroma: true, ..MONOCHROME }])
+        .chain(Picture::pairs_of_depths().filter(|[luma, chroma]| luma != chroma).map(in_monochrome));
     for picture in broken {
         let mut world = World::lent_for(&picture);
         for call in every_call() {
@@ -281,7 +305,10 @@ fn every_call() -> [Call; 6] {
 fn descriptions_at_the_limits() {
     let kept = [
         Picture { width: 8192, height: 8, ..NINE },
-        Picture { width: 8, height: 8192, ctb: 64, depth: 16, ..MONOCHROME },
+        Picture { width: 8, height: 8192, ctb: 64, ..MONOCHROME.at_depths([16, 16]) },
+        NINE.at_depths([8, 16]),
+        NINE.at_depths([16, 8]),
+        Picture { format: 3, chroma: false, ..NINE.at_depths([8, 9]) },
         Picture { format: 2, ..NINE },
         Picture { format: 3, ..NINE },
         Picture { format: 3, ..MONOCHROME },
@@ -382,7 +409,7 @@ fn the_rows_are_the_papers() {
 fn every_row_has_an_answer() {
     let sides = [0, 8, 12, 24, 8192, u32::MAX];
     let pictures = sides.iter().flat_map(|&width| sides.map(|height| Picture { width, height, ..NINE }));
-    let pictures = pictures.chain([0, 7, 17, 255].map(|depth| Picture { depth, ..NINE }));
+    let pictures = pictures.chain(outside_8_to_16());
     let pictures = pictures.chain([0, 64, u32::MAX].map(|ctb| Picture { ctb, ..NINE }));
     let numbers = [0, 1, 9, u32::MAX];
     for (picture, number) in pictures.flat_map(|picture| numbers.map(|number| (picture, number))) {

@@ -117,9 +117,9 @@ fn finished_rows_grow() {
 #[test]
 fn offsets_are_scaled_above_depth_10() {
     for (depth, acts_as) in [(8, 7), (9, 15), (10, 31), (11, 62), (12, 124), (16, 1984)] {
-        let picture = Picture { depth, ..common::MONOCHROME };
-        let most = picture.largest_magnitude() as i8;
-        let sample = picture.largest_sample() / 2;
+        let picture = common::MONOCHROME.at_depths([depth; 2]);
+        let most = picture.largest_magnitude(0) as i8;
+        let sample = picture.largest_sample(0) / 2;
         let set = CtuSet::of_luma(common::band(15, [most, 0, 0, 0]));
         let filtered = filter_picture(&picture, &[set], [&[sample; 64], &[], &[]]);
         assert_eq!(filtered[0], [sample + acts_as; 64]);

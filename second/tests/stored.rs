@@ -5,6 +5,7 @@
 
 use second::ComponentSet;
 use second::stored::blocks::{PLANE, Record, SHAPES, records};
+use second::stored::cases;
 use std::process::Command;
 
 fn second(arguments: &[&str]) -> std::process::Output {
@@ -31,6 +32,26 @@ fn no_other_file_is_stored() {
     {
         let written = second(arguments);
         assert_eq!((written.status.code(), written.stdout.len()), (Some(2), 0));
+    }
+}
+
+/// Whether a program that takes one of the two depths for both gives this record another answer.
+fn shows_one_depth(record: &cases::Record, luma: bool) -> bool {
+    let picture = record.picture;
+    let depth = if luma { picture.luma_depth } else { picture.chroma_depth };
+    let otherwise = cases::Record { picture: picture.at_depths([depth; 2]), ..record.clone() };
+    !picture.breaks_a_rule() && record.answer() != otherwise.answer()
+}
+
+/// A program with one depth, luma's or chroma's, is found out by many records of `cases` that read and that write.
+#[test]
+fn one_depth_is_found_out() {
+    let records = cases::records();
+    let reads = |record: &&cases::Record| matches!(record.call, cases::Call::Read { .. });
+    let (read, written): (Vec<_>, Vec<_>) = records.iter().partition(reads);
+    for (records, luma) in [&read, &written].into_iter().flat_map(|records| [(records, true), (records, false)]) {
+        let times = records.iter().filter(|record| shows_one_depth(record, luma)).count();
+        assert!(times >= 50, "{times}");
     }
 }
 

@@ -3,9 +3,9 @@
 //! They are written anew by `second stored replay FILE > crates/replay/FILE`, for the files `stdin` and `stdout`.
 
 use second::reasons::{self, Seen};
-use second::stored_runs::drawn::{DEPTHS, commands};
+use second::stored_runs::drawn::{DEPTHS, commands, kinds};
 use second::stored_runs::{Command, DELIVERY, Machine, Made, ROOM, WHOLE, bytes};
-use second::{Answer, Call, Kind, Picture, Value};
+use second::{Answer, Call, ComponentSet, Kind, Picture, Refusal, State, Value, World, apply, table};
 use std::collections::BTreeMap;
 
 /// Every reason is met at least so often in a call that has it.
@@ -73,12 +73,13 @@ fn the_runs_are_of_every_kind() {
     let calls = calls();
     let whole = |made: &&Made| made.answer.answer == Ok(Value::Rows(made.state.picture.plane_height(0)));
     println!("replay: {runs} runs, luma finished {} times", calls.iter().filter(whole).count());
-    for (depth, format) in (8..=16).flat_map(|depth| [0, 1, 2, 3].map(|format| (depth, format))) {
+    let planes = [(0, 0), (1, 0), (1, 1), (1, 2), (2, 0), (2, 1), (2, 2), (3, 0), (3, 1), (3, 2)];
+    for (depth, (format, component)) in (8..=16).flat_map(|depth| planes.map(|plane| (depth, plane))) {
         let filtered = |made: &Made| {
             let picture = made.state.picture;
-            matches!(made.call, Call::Filter { .. }) && (picture.depth, picture.format) == (depth, format)
+            filters(made, component) && (picture.format, picture.depth(component)) == (format, depth)
         };
-        assert!(has(&calls, filtered), "depth {depth}, format {format}");
+        assert!(has(&calls, filtered), "depth {depth}, format {format}, component {component}");
     }
     let all = |made: &Made| made.state.picture.plane_height(0);
     assert!(has(&calls, |made| matches!(made.answer.answer, Ok(Value::Rows(rows)) if 0 < rows && rows < all(made))));
@@ -88,33 +89,104 @@ fn the_runs_are_of_every_kind() {
     ));
 }
 
+/// Whether a block of this component is filtered.
+fn filters(made: &Made, of: usize) -> bool {
+    matches!(made.call, Call::Filter { component, .. } if usize::from(component) == of)
+}
+
 /// Whether the last column and the last row are narrower and lower than a CTB.
 fn is_cut_short(picture: &Picture) -> bool {
     !picture.width.is_multiple_of(picture.ctb) && !picture.height.is_multiple_of(picture.ctb)
 }
 
-/// Of every CTB size, format and chosen depth there is a picture of several CTUs in two rows, cut short on both sides, of
+/// Of every CTB size, format and chosen depths there is a picture of several CTUs in two rows, cut short on both sides, of
 /// which the last CTB is filtered; and one picture has 64 CTUs, all of them filtered.
 #[test]
 fn the_larger_pictures_are_of_every_kind() {
     let calls = calls();
-    let formats = [16, 32, 64].into_iter().flat_map(|ctb| [0, 1, 2, 3].map(|format| (ctb, format)));
-    for (ctb, format, depth) in formats.flat_map(|(ctb, format)| DEPTHS.map(|depth| (ctb, format, depth))) {
+    for (ctb, format, depths) in kinds() {
         let last = |made: &Made, picture: &Picture| match made.call {
             Call::Filter { ctb, .. } => ctb as usize == picture.ctus() - 1,
             _ => false,
         };
         let filtered = |made: &Made| {
             let picture = made.state.picture;
-            (picture.ctb, picture.format, picture.depth) == (ctb, format, depth)
+            (picture.ctb, picture.format, picture.depths()) == (ctb, format, depths)
                 && picture.rows() == 2
                 && picture.columns() >= 2
                 && is_cut_short(&picture)
                 && last(made, &picture)
         };
-        assert!(has(&calls, filtered), "CTB size {ctb}, format {format}, depth {depth}");
+        assert!(has(&calls, filtered), "CTB size {ctb}, format {format}, depths {depths:?}");
     }
     assert!(has(&calls, |made| made.state.picture.ctus() == 64 && made.answer.answer == Ok(Value::Rows(128))));
+}
+
+/// Whether a block of this component is filtered by a set that is not off.
+fn filters_by_a_set(made: &Made, of: usize) -> bool {
+    let Call::Filter { ctb, .. } = made.call else { return false };
+    let set = table::stored(&made.state.picture, &made.lent.table, ctb as usize);
+    filters(made, of) && set.is_some_and(|set| set.components()[of] != ComponentSet::Off)
+}
+
+/// Of every pair of depths there is a picture with chroma, of which a block of every component is filtered; where both are
+/// chosen ones, by a set that is not off.
+#[test]
+fn every_pair_of_depths_is_filtered() {
+    let calls = calls();
+    for (depths, of) in Picture::pairs_of_depths().flat_map(|depths| [0, 1, 2].map(|of| (depths, of))) {
+        let chosen = depths.iter().all(|depth| DEPTHS.contains(depth));
+        let filtered = |made: &Made| {
+            let picture = made.state.picture;
+            let own = picture.format != 0 && picture.depths() == depths;
+            own && if chosen { filters_by_a_set(made, of) } else { filters(made, of) }
+        };
+        assert!(has(&calls, filtered), "depths {depths:?}, component {of}");
+    }
+}
+
+/// What comes of a call and of what it is lent, in a picture of these depths.
+fn made_at(made: &Made, depths: [u8; 2]) -> (Result<Value, Refusal>, World) {
+    let picture = made.state.picture.at_depths(depths);
+    let mut world = made.lent.clone();
+    let answer = apply(&mut world, State { picture, ..made.state }, made.call.clone());
+    (answer.answer, world)
+}
+
+/// A stage that takes luma's depth for chroma too, or chroma's for luma, is found out by reads, writes, deliveries and
+/// filters.
+#[test]
+fn one_depth_is_found_out() {
+    let mut times: BTreeMap<(Kind, &str), usize> = BTreeMap::new();
+    for made in calls().iter().filter(|made| !made.state.picture.breaks_a_rule()) {
+        let depths @ [luma, chroma] = made.state.picture.depths();
+        for (name, depth) in [("luma's", luma), ("chroma's", chroma)] {
+            let shows = luma != chroma && made_at(made, [depth; 2]) != made_at(made, depths);
+            *times.entry((Kind::of(&made.call), name)).or_default() += usize::from(shows);
+        }
+    }
+    println!("replay: answers that one depth would change: {times:?}");
+    let looks = |kind: Kind| !matches!(kind, Kind::Open | Kind::FinishedRows);
+    assert!(times.iter().all(|((kind, _), &times)| if looks(*kind) { times >= LEAST } else { times == 0 }));
+}
+
+/// Every call is refused for luma's depth alone, for chroma's alone, and in monochrome for two that differ.
+#[test]
+fn every_wrong_pair_of_depths_is_met() {
+    let calls = calls();
+    let outside = |depth: u8| !(8..=16).contains(&depth);
+    let kinds_of_wrong: [(&str, &dyn Fn(Picture) -> bool); 3] = [
+        ("luma", &|picture| outside(picture.luma_depth) && !outside(picture.chroma_depth)),
+        ("chroma", &|picture| !outside(picture.luma_depth) && outside(picture.chroma_depth)),
+        ("monochrome", &|Picture { format, luma_depth, chroma_depth, .. }| {
+            format == 0 && luma_depth != chroma_depth && !outside(luma_depth) && !outside(chroma_depth)
+        }),
+    ];
+    for (kind, (name, is_wrong)) in Kind::ALL.into_iter().flat_map(|kind| kinds_of_wrong.map(|wrong| (kind, wrong))) {
+        let met = calls.iter().filter(|made| Kind::of(&made.call) == kind && is_wrong(made.state.picture));
+        let refused: Vec<bool> = met.map(|made| made.answer.answer == Err(Refusal(1))).collect();
+        assert!(!refused.is_empty() && refused.iter().all(|&refused| refused), "{kind:?}, {name}");
+    }
 }
 
 /// The proved program has room for all that is lent and given.

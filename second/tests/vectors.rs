@@ -45,9 +45,11 @@ fn every_vector_comes_out_bit_for_bit() {
     println!(
         "compared {files} files in {ORDERS} orders: {ctus} CTUs, {bins} bins, {samples} samples, {changed} changed"
     );
-    assert_eq!(files, 46);
+    assert_eq!(files, 47);
     let of = |format: u8| vectors.iter().filter(|(_, vector)| vector.picture().format == format).count();
-    assert_eq!([0, 1, 2, 3].map(of), [3, 23, 3, 17]);
+    assert_eq!([0, 1, 2, 3].map(of), [3, 24, 3, 17]);
+    let depths = vectors.iter().map(|(_, vector)| vector.picture().depths());
+    assert_eq!(depths.filter(|[luma, chroma]| luma != chroma).collect::<Vec<_>>(), [[8, 10]]);
     assert!(ctus > 0 && bins > 0 && samples > 0 && changed > 0);
 }
 
@@ -141,9 +143,31 @@ fn above_10_bits_the_sent_scale_decides() {
     assert_eq!(not_covered(with(scaled(), &[(4, 8), (10, 0)])), None);
     let sent = "it sends scale 0 for luma, where the 2013 rule has 2";
     assert_eq!(not_covered(with(scaled(), &[(9, 0)])), Some(sent.into()));
-    let deep = |scale: i32| with(twenty_ctus(), &[(3, 12), (4, 12), (9, 2), (10, scale)]);
-    assert_eq!(not_covered(deep(2)), None);
-    assert_eq!(not_covered(deep(1)), Some("it sends scale 1 for chroma, where the 2013 rule has 2".into()));
+    let deep = |depth: i32, scale: i32| with(twenty_ctus(), &[(3, 12), (4, depth), (9, 2), (10, scale)]);
+    assert_eq!(not_covered(deep(12, 2)), None);
+    assert_eq!(not_covered(deep(12, 1)), Some("it sends scale 1 for chroma, where the 2013 rule has 2".into()));
+    // By each component's own depth.
+    for (depth, scale) in [(8, 0), (10, 0), (11, 1), (16, 6)] {
+        assert_eq!(not_covered(deep(depth, scale)), None);
+    }
+    let sent = "it has luma depth 12, chroma depth 14 and sends scale 2 for chroma, where the 2013 rule has 4";
+    assert_eq!(not_covered(deep(14, 2)), Some(sent.into()));
+}
+
+/// Chroma has a depth of its own where there is chroma; without it the file's number says nothing, and luma's stands there.
+#[test]
+fn the_description_has_the_depths_of_the_planes() {
+    let depths = |bytes: Vec<u8>| {
+        let picture = Vector::parse(&bytes).expect("a sound file").picture();
+        assert!(!picture.breaks_a_rule());
+        picture.depths()
+    };
+    assert_eq!(depths(bundled("d_420_8y10c-000.sao")), [8, 10]);
+    assert_eq!(depths(with(twenty_ctus(), &[(3, 9), (4, 13), (10, 3)])), [9, 13]);
+    for format in [0, 3] {
+        let monochrome = with(bundled("s_400_12_scale-000.sao"), &[(2, format), (4, 8), (10, 0)]);
+        assert_eq!(depths(monochrome), [12, 12]);
+    }
 }
 
 /// 4:4:4 with planes coded apart (chroma_format_idc 3, ChromaArrayType 0) has one plane in the file, as monochrome has.
@@ -196,8 +220,11 @@ fn no_more_is_read_than_the_header_announces() {
 fn nothing_is_read_after_a_header_that_is_not_covered() {
     for (numbers, why) in [
         (&[(0, 8208), (1, 8192), (7, 513), (8, 512)][..], "its size is 8208x8192, above 8192"),
-        (&[(4, 9)], "it has the depths 8 and 9"),
-        (&[(2, 2), (24, 2), (4, 9)], "it has the depths 8 and 9"),
+        (&[(3, 12)], "it has luma depth 12, chroma depth 8 and sends scale 0 for luma, where the 2013 rule has 2"),
+        (
+            &[(2, 2), (24, 2), (4, 11)],
+            "it has luma depth 8, chroma depth 11 and sends scale 0 for chroma, where the 2013 rule has 1",
+        ),
         (&[(2, 3), (24, 3), (14, 2)], "it has several tiles"),
         (&[(2, 3), (24, 0), (3, 11), (4, 8)], "it sends scale 0 for luma, where the 2013 rule has 1"),
         (&[(3, 12), (4, 12), (9, 1), (10, 2)], "it sends scale 1 for luma, where the 2013 rule has 2"),
@@ -217,7 +244,14 @@ fn nothing_is_read_after_a_header_that_is_not_covered() {
         assert_eq!(damage.to_string(), format!("the file has 136 bytes, where its header announces {right}"));
     }
     // One that is covered is read.
-    for numbers in [&[(23, 1)][..], &[(2, 2), (24, 2)], &[(2, 3), (24, 3)], &[(2, 3), (24, 0)]] {
+    for numbers in [
+        &[(23, 1)][..],
+        &[(2, 2), (24, 2)],
+        &[(2, 3), (24, 3)],
+        &[(2, 3), (24, 0)],
+        &[(4, 9)],
+        &[(2, 2), (24, 2), (3, 10)],
+    ] {
         let bytes = with(twenty_ctus()[..136].to_vec(), numbers);
         let damage = Vector::covered(&mut bytes.as_slice(), None).expect_err("a short file");
         assert_eq!(damage.to_string(), "the file ends within its tile boundaries");

@@ -8,7 +8,7 @@
 //
 //     54   1 where there is a left neighbour, 55 where there is an upper one, else 0
 //     56   0 to read, 1 to write
-//     57   the description: format, depth, luma switch, chroma switch; 61 is 0
+//     57   the description: format, luma depth, chroma depth, luma switch, chroma switch
 //     62   width, height and CTB size, of two bytes each
 //     68   how many bins there are to be read, of two bytes
 //     70   how many bytes of the body are lent: bins to be read, or room for those to be written; 71 is 0
@@ -20,6 +20,7 @@
 use records::pair;
 use records::print_word;
 use records::wide;
+use standard::BitDepths;
 use standard::CtuSet;
 use standard::Picture;
 use standard::SET_BYTES;
@@ -59,9 +60,12 @@ fn picture_of(head: &[u8; 72]) -> Picture {
     let height = pair(head[64], head[65]);
     let ctb = pair(head[66], head[67]);
     let format = head[57];
-    let depth = head[58];
-    let luma = head[59] != 0;
-    let chroma = head[60] != 0;
+    let depth = BitDepths {
+        luma: head[58],
+        chroma: head[59],
+    };
+    let luma = head[60] != 0;
+    let chroma = head[61] != 0;
     Picture {
         width,
         height,

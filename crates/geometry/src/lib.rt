@@ -2,7 +2,7 @@
 ghost use mathlib.Core.Path.{_≡_};
 ghost use mathlib.Core.Logic.{_⊎_};
 ghost use Prim.Native.Nat.{_+_, _-_, _*_, _/_, _≤_, _<_, min};
-ghost use Rattle.standard.specs.Picture.{Side, Rules, depthOf, components, planeWidth, planeHeight, samplesOf};
+ghost use Rattle.standard.specs.Picture.{Side, Depth, Rules, depthOf, components, planeWidth, planeHeight, samplesOf};
 ghost use Rattle.standard.specs.Picture.{ctbWidth, ctbHeight, columns, rows, ctuCount, rectangle, grown, due, leftOf, aboveOf, mergeLeft, mergeUp};
 ghost use Rattle.standard.specs.Sets.{largest, depthIn, most, switchesIn, switchesOf};
 ghost use Rattle.standard.specs.Means.{anyOn};
@@ -47,6 +47,18 @@ fn is_side(n: u32) -> bool
     true
 }
 
+fn is_depth(n: u8) -> bool
+    ensures { λ r. ⌜ Tells (Depth n) r ⌝ }
+{
+    if n < 8 {
+        return false;
+    }
+    if n > 16 {
+        return false;
+    }
+    true
+}
+
 fn is_ctb_size(n: u32) -> bool
     ensures { λ r. ⌜ Tells (CtbSize n) r ⌝ }
 {
@@ -71,16 +83,21 @@ pub fn is_described(p: Picture) -> bool
     if p.format > 3 {
         return false;
     }
-    if p.depth < 8 {
+    let d = p.depth;
+    if !is_depth(d.luma) {
         return false;
     }
-    if p.depth > 16 {
+    if !is_depth(d.chroma) {
         return false;
     }
-    if p.chroma {
-        return p.format != 0;
+    if p.format != 0 {
+        return true;
     }
-    true
+    // in monochrome
+    if d.chroma != d.luma {
+        return false;
+    }
+    !p.chroma
 }
 
 // ---- bit depth
@@ -88,7 +105,11 @@ pub fn is_described(p: Picture) -> bool
 pub fn depth_of(p: Picture, component: u8) -> u32
     ensures { λ r. ⌜ r ≡ depthOf p component ⌝ }
 {
-    p.depth as u32
+    let d = p.depth;
+    match component {
+        0 => d.luma as u32,
+        _ => d.chroma as u32,
+    }
 }
 
 // Min( bitDepth, 10 ): offsets are coded as if samples had no more bits.

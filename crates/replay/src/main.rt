@@ -10,8 +10,8 @@
 // it. A number of several bytes has its low byte first. The head is the command's number, three bytes
 // a, b, c, and a number n of four bytes.
 //
-//     0  state    20 bytes more: width, height and CTB size, of four bytes each; format, depth, luma
-//                 switch and chroma switch; the next CTU, of four bytes
+//     0  state    21 bytes more: width, height and CTB size, of four bytes each; format, luma depth,
+//                 chroma depth, luma switch and chroma switch; the next CTU, of four bytes
 //     1  lengths  16 bytes more: how much of each buffer is lent from now on, of two bytes each
 //     2  fill     all buffers, one after the other, from n: for each place n becomes the next number
 //                 of xorshift32 (13, 17, 5), and the place n's low bits
@@ -33,6 +33,7 @@
 // turn the next number of xorshift32 after the sum XOR the number. Of a buffer it goes over the part
 // that is lent and the 64 places after it, as far as there are so many.
 use standard::Answer;
+use standard::BitDepths;
 use standard::CtuSet;
 use standard::Picture;
 use standard::ReadAnswer;
@@ -177,7 +178,9 @@ fn sum_of_filtered(lent: Lent, out_y: &[u16], out_cb: &[u16], out_cr: &[u16]) ->
 
 fn sum_of_picture(sum: u32, p: Picture) -> u32 {
     let size = next(next(next(sum ^ p.width) ^ p.height) ^ p.ctb);
-    let samples = next(next(size ^ number_of_byte(p.format)) ^ number_of_byte(p.depth));
+    let d = p.depth;
+    let format = next(size ^ number_of_byte(p.format));
+    let samples = next(next(format ^ number_of_byte(d.luma)) ^ number_of_byte(d.chroma));
     next(next(samples ^ number_of_switch(p.luma)) ^ number_of_switch(p.chroma))
 }
 
@@ -508,14 +511,17 @@ fn rows<'a>(
 
 // ---- what is kept
 
-fn picture_of(m: &[u8; 20]) -> Picture {
+fn picture_of(m: &[u8; 21]) -> Picture {
     let width = four(m[0], m[1], m[2], m[3]);
     let height = four(m[4], m[5], m[6], m[7]);
     let ctb = four(m[8], m[9], m[10], m[11]);
     let format = m[12];
-    let depth = m[13];
-    let luma = m[14] != 0;
-    let chroma = m[15] != 0;
+    let depth = BitDepths {
+        luma: m[13],
+        chroma: m[14],
+    };
+    let luma = m[15] != 0;
+    let chroma = m[16] != 0;
     Picture {
         width,
         height,
@@ -528,10 +534,10 @@ fn picture_of(m: &[u8; 20]) -> Picture {
 }
 
 fn read_state() -> State {
-    let mut m = [0u8; 20];
+    let mut m = [0u8; 21];
     io::read_full(0, &mut m);
     let picture = picture_of(&m);
-    let next = four(m[16], m[17], m[18], m[19]);
+    let next = four(m[17], m[18], m[19], m[20]);
     State { picture, next }
 }
 
@@ -742,12 +748,13 @@ fn turn(
 
 // What is kept before the first command: nothing is lent.
 fn start() -> Kept {
+    let depth = BitDepths { luma: 0, chroma: 0 };
     let picture = Picture {
         width: 0,
         height: 0,
         ctb: 0,
         format: 0,
-        depth: 0,
+        depth,
         luma: false,
         chroma: false,
     };

@@ -1,21 +1,44 @@
 -- The depth of a component, and what follows from it: the largest magnitude M, and how far offsets are shifted.
 -- One law says that M, shifted, is below the sample range, at every depth.
 use mathlib.Core.Path.{_≡_, refl, ap}
-use Prim.Native.Nat.{ℕ, _+_, _-_, _*_, _%_, _^_, _≤_, _<_, min}
+use Prim.Native.Nat.{ℕ, zero, suc, _+_, _-_, _*_, _%_, _^_, _≤_, _<_, min}
 use native.Mathlib.Nat.{one-mul, mod-eq-of-lt, lt-of-le-of-lt, lt-of-lt-of-le}
 use native.Mathlib.Omega.{arith}
 use lib.Dec.{lit<}
 use lib.Pow.{pow-pos, pow-mono, shl-lt}
+use Rattle.standard.specs.declared.BitDepths.{BitDepths}
 use Rattle.standard.specs.declared.Picture.{Picture}
-use Rattle.standard.specs.Picture.{Rules, depthOf}
+use Rattle.standard.specs.Picture.{Depth, Rules, depthOf}
 use Rattle.standard.specs.Sets.{largest}
 use Rattle.standard.specs.Samples.{shiftOf}
 
 -- ---- the depth and the shift of a component
 
-pub depth-in-range : {p : Picture} → Rules p → (i : ℕ) → (8 ≤ depthOf p i) × (depthOf p i ≤ 16)
+abbrev pub depths : ℕ → ℕ → BitDepths
+depths y c = record { luma = y; chroma = c }
+
+-- luma and chroma of one depth, as document 01 has it
+abbrev pub alike : ℕ → BitDepths
+alike d = depths d d
+
+pub depth-of-luma : (p : Picture) {i : ℕ} → i ≡ 0 → depthOf p i ≡ p .depth .luma
 unfolding depthOf
-depth-in-range rules i = (rules .depth-least, rules .depth-most)
+depth-of-luma p {i = zero} e = refl
+depth-of-luma p {i = suc i} e = absurd (omega arith)
+
+pub depth-of-chroma : (p : Picture) {i : ℕ} → ¬ (i ≡ 0) → depthOf p i ≡ p .depth .chroma
+unfolding depthOf
+depth-of-chroma p {i = zero} n = absurd (n refl)
+depth-of-chroma p {i = suc i} n = refl
+
+pub depth-in-range : {p : Picture} → Rules p → (i : ℕ) → Depth (depthOf p i)
+unfolding depthOf
+depth-in-range rules zero = rules .luma-depth
+depth-in-range rules (suc i) = rules .chroma-depth
+
+-- a number that is the depth of a component, whichever
+pub depth-at-most-16 : {p : Picture} {n : ℕ} → Rules p → (i : ℕ) → n ≡ depthOf p i → n ≤ 16
+depth-at-most-16 rules i e = omega (arith, e, depth-in-range rules i)
 
 pub shift-at-most-6 : {p : Picture} → Rules p → (i : ℕ) → shiftOf p i ≤ 6
 unfolding shiftOf

@@ -50,7 +50,8 @@ in-colour p f a b r = record {
   height = r .height;
   size = r .size;
   format = b;
-  depth-least = r .depth-least;
-  depth-most = r .depth-most;
+  luma-depth = r .luma-depth;
+  chroma-depth = r .chroma-depth;
   mono = λ e. absurd (omega (arith, a, e));
+  mono-depth = λ e. absurd (omega (arith, a, e));
 }

@@ -10,12 +10,16 @@ use Rattle.standard.specs.declared.Picture.{Picture}
 use Rattle.standard.specs.declared.Offsets.{Offsets}
 use Rattle.standard.specs.declared.Offsets.the-variants.{Off, Band, Edge}
 use Rattle.standard.specs.declared.CtuSet.{CtuSet}
-use Rattle.standard.specs.Picture.{Side, Rules, columns, ctuCount, Adjacent}
+use Rattle.standard.specs.Picture.{Side, Depth, Rules, columns, ctuCount, Adjacent}
 use Rattle.standard.specs.declared.Switches.{Switches}
 use Rattle.standard.specs.Sets.{most, NotNegative, NotPositive, Small, EdgeSigns, Fits, Shares, Ruled, Valid}
 use Rattle.standard.proofs.Decisions.{differ, by-iff, or?}
 
 -- ---- a description
+
+depth? : (n : ℕ) → Dec (Depth n)
+unfolding Dec·and
+depth? n = Dec·and (decLe 8 n) (decLe n 16)
 
 side? : (n : ℕ) → Dec (Side n)
 unfolding Dec·and
@@ -25,26 +29,37 @@ false? : (b : Bool) → Dec (b ≡ false)
 false? true = no (λ e. differ (cc))
 false? false = yes refl
 
-mono? : (format : ℕ) (chroma : Bool) → Dec (format ≡ 0 → chroma ≡ false)
-unfolding false?
-mono? format chroma = go (ℕ-discrete format 0) (false? chroma)
+-- a rule of monochrome
+mono? : (format : ℕ) {A : Type 0} → Dec A → Dec (format ≡ 0 → A)
+mono? format {A = A} a = go (ℕ-discrete format 0) a
   where
-    go : Dec (format ≡ 0) → Dec (chroma ≡ false) → Dec (format ≡ 0 → chroma ≡ false)
+    go : Dec (format ≡ 0) → Dec A → Dec (format ≡ 0 → A)
     go f (yes e) = yes (λ h. e)
     go (yes h) (no n) = no (λ k. n (k h))
     go (no m) (no n) = yes (λ h. absurd (m h))
 
 unfoldable pub rules? : (p : Picture) → Dec (Rules p)
-unfolding side? mono? or? Dec·and
+unfolding side? depth? false? mono? or? Dec·and
 rules? p =
     by-iff
-    (λ t. record { width = t .0; height = t .1 .0; size = t .1 .1 .0; format = t .1 .1 .1 .0; depth-least = t .1 .1 .1 .1 .0; depth-most = t .1 .1 .1 .1 .1 .0; mono = t .1 .1 .1 .1 .1 .1 })
-    (λ r. (r .width, (r .height, (r .size, (r .format, (r .depth-least, (r .depth-most, r .mono)))))))
+    (λ t. record {
+      width = t .0;
+      height = t .1 .0;
+      size = t .1 .1 .0;
+      format = t .1 .1 .1 .0;
+      luma-depth = t .1 .1 .1 .1 .0;
+      chroma-depth = t .1 .1 .1 .1 .1 .0;
+      mono = t .1 .1 .1 .1 .1 .1 .0;
+      mono-depth = t .1 .1 .1 .1 .1 .1 .1;
+    })
+    (λ r. (r .width, (r .height, (r .size, (r .format, (r .luma-depth, (r .chroma-depth, (r .mono, r .mono-depth))))))))
     (Dec·and (side? (p .width))
     (Dec·and (side? (p .height))
     (Dec·and (or? (ℕ-discrete (p .ctb) 16) (or? (ℕ-discrete (p .ctb) 32) (ℕ-discrete (p .ctb) 64)))
     (Dec·and (decLe (p .format) 3)
-    (Dec·and (decLe 8 (p .depth)) (Dec·and (decLe (p .depth) 16) (mono? (p .format) (p .chroma))))))))
+    (Dec·and (depth? (p .depth .luma))
+    (Dec·and (depth? (p .depth .chroma))
+    (Dec·and (mono? (p .format) (false? (p .chroma))) (mono? (p .format) (ℕ-discrete (p .depth .chroma) (p .depth .luma))))))))))
 
 unfoldable pub adjacent? : (p : Picture) (k j : ℕ) → Dec (Adjacent p k j)
 unfolding Dec·and

@@ -8,6 +8,7 @@ pub mod Order
 pub mod Counting
 pub mod Seeing
 pub mod Depths
+pub mod TwoDepths
 pub mod Tables
 pub mod Clips
 pub mod Moves

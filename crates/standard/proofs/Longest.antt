@@ -1,23 +1,24 @@
 -- The longest CTU: no bins that mean a set are more than a number that the depths decide, and some are that many.
 -- The longest form is in full after two merges that are not taken, with three bands of the largest magnitudes.
-use mathlib.Core.Path.{_≡_, refl, ap, _∙_}
+use mathlib.Core.Path.{_≡_, refl, ap, subst, _∙_}
 use mathlib.Core.Bool.{Bool, true, false}
 use mathlib.Core.List.{List, [], _∷_, _++_}
 use mathlib.Core.Option.{Option, some, none}
 use Prim.Native.Nat.{ℕ, zero, suc, _+_, _*_, _≤_, _<_}
 use native.Mathlib.Nat.{le-refl}
 use native.Mathlib.Omega.{arith}
-use lib.Dec.{lit<}
+use lib.Dec.{lit<, lit≤}
 use lib.IntN.{ℤ, pos, negsuc, natAbs}
 use lib.ListN.{length, length-append}
 use Rattle.standard.specs.declared.Offsets.{Offsets}
 use Rattle.standard.specs.declared.Offsets.the-variants.{Off, Band, Edge}
 use Rattle.standard.specs.declared.CtuSet.{CtuSet}
+use Rattle.standard.specs.declared.Picture.{Picture}
 use Rattle.standard.specs.declared.Switches.{Switches}
-use Rattle.standard.specs.Sets.{largest, depthIn, most, Fits, Valid}
+use Rattle.standard.specs.Sets.{largest, most, Fits, Valid, switchesIn}
 use Rattle.standard.specs.Bins.{truncated, fixedLength, magnitudes, signBins, signs, typeBins, rest, restOfCr, when, full}
 use Rattle.standard.specs.Means.{either, notTaken, Means, no-bins, merge-left, merge-up, in-full}
-use Rattle.standard.proofs.Depths.{largest-8, largest-is-31, largest-at-least-7}
+use Rattle.standard.proofs.Depths.{depth-of-luma, depth-of-chroma, largest-8, largest-is-31, largest-at-least-7}
 
 -- the bins of the longest CTU
 abbrev pub longest : Switches → ℕ
@@ -188,28 +189,60 @@ module _ (s : Switches) (luma : s .luma ≡ true) (chroma : s .chroma ≡ true) 
   pub loudest-means : (a b : CtuSet) → Means s (some a) (some b) (loudest s) (longestBins s)
   loudest-means a b = in-full (ap (λ (t : Bool). either t (s .chroma)) luma) loudest-valid refl
 
-  pub longest-length : ((i : ℕ) → i < 3 → 8 ≤ depthIn s i) → length (longestBins s) ≡ longest s
-  longest-length deep =
-      let m0 : 1 ≤ most s 0 = omega (arith, largest-at-least-7 (deep 0 (lit< tt))) in
-      let m1 : 1 ≤ most s 1 = omega (arith, largest-at-least-7 (deep 1 (lit< tt))) in
-      let m2 : 1 ≤ most s 2 = omega (arith, largest-at-least-7 (deep 2 (lit< tt))) in
+  pub longest-length : 8 ≤ s .y → 8 ≤ s .cb → 8 ≤ s .cr → length (longestBins s) ≡ longest s
+  longest-length y cb cr =
+      let m0 : 1 ≤ most s 0 = omega (arith, largest-at-least-7 y) in
+      let m1 : 1 ≤ most s 1 = omega (arith, largest-at-least-7 cb) in
+      let m2 : 1 ≤ most s 2 = omega (arith, largest-at-least-7 cr) in
       let l : length (when (s .luma) (lumaBins s (loudest s))) ≡ 11 + 4 * most s 0 =
       ap length (when-on (s .luma) _ luma) ∙ omega (arith, luma-length s (loudest s), loud-type (most s 0), loud-rest (most s 0) m0) in
       let c : length (when (s .chroma) (chromaBins s (loudest s))) ≡ (11 + 4 * most s 1) + (9 + 4 * most s 2) =
       ap length (when-on (s .chroma) _ chroma) ∙ omega (arith, chroma-length s (loudest s), loud-type (most s 1), loud-rest (most s 1) m1, loud-restOfCr (most s 2) m2) in
       omega (arith, full-parts s (loudest s))
 
-  pub reached : ((i : ℕ) → i < 3 → 8 ≤ depthIn s i) → (a b : CtuSet) → (q : CtuSet) × (bins : List Bool) × Means s (some a) (some b) q bins × (length bins ≡ longest s)
-  reached deep a b = (loudest s, longestBins s, loudest-means a b, longest-length deep)
+  pub reached : 8 ≤ s .y → 8 ≤ s .cb → 8 ≤ s .cr → (a b : CtuSet) → (q : CtuSet) × (bins : List Bool) × Means s (some a) (some b) q bins × (length bins ≡ longest s)
+  reached y cb cr a b = (loudest s, longestBins s, loudest-means a b, longest-length y cb cr)
 
--- ---- where every component has one depth
+-- ---- by the depths of luma and chroma
 
-module _ (s : Switches) (d : ℕ) (same : (i : ℕ) → i < 3 → depthIn s i ≡ d) where
-  pub longest-at : longest s ≡ 33 + 12 * largest d
-  longest-at = omega (arith, ap largest (same 0 (lit< tt)), ap largest (same 1 (lit< tt)), ap largest (same 2 (lit< tt)))
+-- luma has a depth, and Cb and Cr another
+pub record Deep (s : Switches) (y c : ℕ) : Type 0 where
+  pub luma : s .y ≡ y
+  pub cb : s .cb ≡ c
+  pub cr : s .cr ≡ c
 
-  pub longest-at-8 : d ≡ 8 → longest s ≡ 117
-  longest-at-8 e = omega (arith, longest-at, ap largest e, largest-8)
+-- no bins are more than n, and of a CTU that may merge to both sides some are
+pub record Longest (s : Switches) (n : ℕ) : Type 0 where
+  pub none-longer : {left up : Option CtuSet} {q : CtuSet} {bins : List Bool} → Means s left up q bins → length bins ≤ n
+  pub one-as-long : (a b : CtuSet) → (q : CtuSet) × (bins : List Bool) × Means s (some a) (some b) q bins × (length bins ≡ n)
 
-  pub longest-from-10 : 10 ≤ d → longest s ≡ 405
-  longest-from-10 h = omega (arith, longest-at, largest-is-31 h)
+pub in-picture : (p : Picture) → Deep (switchesIn p) (p .depth .luma) (p .depth .chroma)
+unfolding switchesIn
+in-picture p = record {
+  luma = depth-of-luma p refl;
+  cb = depth-of-chroma p (λ e. omega arith);
+  cr = depth-of-chroma p (λ e. omega arith);
+}
+
+module _ {s : Switches} (luma : s .luma ≡ true) (chroma : s .chroma ≡ true) where
+  -- ONE LAW over both depths
+  pub longest-of : {y c : ℕ} → 8 ≤ y → 8 ≤ c → Deep s y c → Longest s (33 + 4 * largest y + 8 * largest c)
+  longest-of {y} {c} hy hc d =
+      let n : longest s ≡ 33 + 4 * largest y + 8 * largest c = omega (arith, ap largest (d .luma), ap largest (d .cb), ap largest (d .cr)) in
+      subst (Longest s) n (record {
+        none-longer = λ m. no-longer m;
+        one-as-long = reached s luma chroma (omega (arith, d .luma)) (omega (arith, d .cb)) (omega (arith, d .cr));
+      })
+
+  -- and its numbers: both at 8, luma from 10 and chroma at 8, luma at 8 and chroma from 10, both from 10
+  pub longest-8-8 : Deep s 8 8 → Longest s 117
+  longest-8-8 d = subst (Longest s) (omega (arith, largest-8)) (longest-of (lit≤ tt) (lit≤ tt) d)
+
+  pub longest-10-8 : {y : ℕ} → 10 ≤ y → Deep s y 8 → Longest s 213
+  longest-10-8 h d = subst (Longest s) (omega (arith, largest-is-31 h, largest-8)) (longest-of (omega arith) (lit≤ tt) d)
+
+  pub longest-8-10 : {c : ℕ} → 10 ≤ c → Deep s 8 c → Longest s 309
+  longest-8-10 h d = subst (Longest s) (omega (arith, largest-is-31 h, largest-8)) (longest-of (lit≤ tt) (omega arith) d)
+
+  pub longest-10-10 : {y c : ℕ} → 10 ≤ y → 10 ≤ c → Deep s y c → Longest s 405
+  longest-10-10 hy hc d = subst (Longest s) (omega (arith, largest-is-31 hy, largest-is-31 hc)) (longest-of (omega arith) (omega arith) d)

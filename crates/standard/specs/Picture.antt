@@ -15,20 +15,25 @@ use Rattle.standard.specs.declared.Rectangle.{Rectangle}
 abbrev pub Side : ℕ → Type 0
 Side n = (n % 8 ≡ 0) × (8 ≤ n) × (n ≤ 8192)
 
+abbrev pub Depth : ℕ → Type 0
+Depth n = (8 ≤ n) × (n ≤ 16)
+
 pub record Rules (p : Picture) : Type 0 where
   pub width : Side (p .width)
   pub height : Side (p .height)
   pub size : (p .ctb ≡ 16) ⊎ ((p .ctb ≡ 32) ⊎ (p .ctb ≡ 64))
   -- chroma_format_idc: monochrome, 4:2:0, 4:2:2 or 4:4:4
   pub format : p .format ≤ 3
-  pub depth-least : 8 ≤ p .depth
-  pub depth-most : p .depth ≤ 16
-  -- the chroma switch must be off in monochrome
+  pub luma-depth : Depth (p .depth .luma)
+  pub chroma-depth : Depth (p .depth .chroma)
+  -- in monochrome the chroma switch must be off, and the chroma depth equal the luma depth
   pub mono : p .format ≡ 0 → p .chroma ≡ false
+  pub mono-depth : p .format ≡ 0 → p .depth .chroma ≡ p .depth .luma
 
--- the bit depth of a component
+-- the bit depth of a component: BitDepthY of luma, BitDepthC of Cb and Cr
 unfoldable pub depthOf : Picture → ℕ → ℕ
-depthOf p i = p .depth
+depthOf p zero = p .depth .luma
+depthOf p (suc i) = p .depth .chroma
 
 -- ---- components and planes
 

@@ -5,6 +5,12 @@ ghost use Prim.Native.Nat.{_<_};
 ghost use Rattle.standard.specs.Calls.{openedState, stateAfter};
 ghost use Rattle.standard.specs.Refusals.{numberOf};
 
+// BitDepthY of luma, and BitDepthC of Cb and Cr.
+pub struct BitDepths {
+    pub luma: u8,
+    pub chroma: u8,
+}
+
 // What a caller says of a picture. The fields hold any number, so that a description that breaks
 // a rule can be handed in, and is refused. `format` is chroma_format_idc.
 pub struct Picture {
@@ -12,7 +18,7 @@ pub struct Picture {
     pub height: u32,
     pub ctb: u32,
     pub format: u8,
-    pub depth: u8,
+    pub depth: BitDepths,
     pub luma: bool,
     pub chroma: bool,
 }

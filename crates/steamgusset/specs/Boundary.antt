@@ -15,10 +15,10 @@ use Rattle.standard.specs.Reasons.{markCount}
 -- ---- the version
 
 abbrev pub MAJOR : ℕ
-MAJOR = 4
+MAJOR = 5
 
 abbrev pub MINOR : ℕ
-MINOR = 1
+MINOR = 0
 
 -- the two as one number, the major above the low 16 bits
 abbrev pub versionOf : ℕ → ℕ → ℕ
@@ -41,11 +41,14 @@ CTB = suc HEIGHT
 abbrev pub FORMAT : ℕ
 FORMAT = suc CTB
 
-abbrev pub DEPTH : ℕ
-DEPTH = suc FORMAT
+abbrev pub LUMA-DEPTH : ℕ
+LUMA-DEPTH = suc FORMAT
+
+abbrev pub CHROMA-DEPTH : ℕ
+CHROMA-DEPTH = suc LUMA-DEPTH
 
 abbrev pub LUMA : ℕ
-LUMA = suc DEPTH
+LUMA = suc CHROMA-DEPTH
 
 abbrev pub CHROMA : ℕ
 CHROMA = suc LUMA
@@ -79,7 +82,8 @@ numbersOf s =
     ∷ (HEIGHT, s .picture .height)
     ∷ (CTB, s .picture .ctb)
     ∷ (FORMAT, s .picture .format)
-    ∷ (DEPTH, s .picture .depth)
+    ∷ (LUMA-DEPTH, s .picture .depth .luma)
+    ∷ (CHROMA-DEPTH, s .picture .depth .chroma)
     ∷ (LUMA, digit (s .picture .luma))
     ∷ (CHROMA, digit (s .picture .chroma))
     ∷ (NEXT, s .next)
@@ -94,17 +98,18 @@ stateOf a =
         height = getD a HEIGHT 0;
         ctb = getD a CTB 0;
         format = getD a FORMAT 0;
-        depth = getD a DEPTH 0;
+        depth = record { luma = getD a LUMA-DEPTH 0; chroma = getD a CHROMA-DEPTH 0 };
         luma = isOn (getD a LUMA 0);
         chroma = isOn (getD a CHROMA 0);
       };
       next = getD a NEXT 0;
     }
 
--- the fields of a state hold the numbers: format and depth are bytes, and a switch is 0 or 1
+-- the fields of a state hold the numbers: format and depths are bytes, and a switch is 0 or 1
 pub record Held (a : List ℕ) : Type 0 where
   pub format : getD a FORMAT 0 ≤ 255
-  pub depth : getD a DEPTH 0 ≤ 255
+  pub luma-depth : getD a LUMA-DEPTH 0 ≤ 255
+  pub chroma-depth : getD a CHROMA-DEPTH 0 ≤ 255
   pub luma : getD a LUMA 0 ≤ 1
   pub chroma : getD a CHROMA 0 ≤ 1
 

@@ -10,6 +10,7 @@ ghost use Rattle.standard.specs.Refusals.{Tells};
 ghost use Rattle.steamgusset.specs.Boundary.{version, Held, numbersOf, stateOf, inByte, widthOf, heightOf, sizesOf};
 ghost use Rattle.steamgusset.specs.Exports.{OpenCrosses, ReadCrosses, WriteCrosses, DeliverCrosses, FilterCrosses, RowsCrosses, SizesCross, BlockCrosses};
 use standard::Answer;
+use standard::BitDepths;
 use standard::Picture;
 use standard::ReadAnswer;
 use standard::RowsAnswer;
@@ -19,9 +20,9 @@ use standard::WriteAnswer;
 
 // ---- the version
 
-const VERSION_MAJOR: u32 = 4;
+const VERSION_MAJOR: u32 = 5;
 
-const VERSION_MINOR: u32 = 1;
+const VERSION_MINOR: u32 = 0;
 
 // Of the archive, for a caller to hold its header's to: the major number above the low 16 bits, the minor in them.
 #[no_mangle]
@@ -41,9 +42,11 @@ const CTB: usize = HEIGHT + 1;
 
 const FORMAT: usize = CTB + 1;
 
-const DEPTH: usize = FORMAT + 1;
+const LUMA_DEPTH: usize = FORMAT + 1;
 
-const LUMA: usize = DEPTH + 1;
+const CHROMA_DEPTH: usize = LUMA_DEPTH + 1;
+
+const LUMA: usize = CHROMA_DEPTH + 1;
 
 const CHROMA: usize = LUMA + 1;
 
@@ -60,7 +63,10 @@ fn is_held(a: &[u32; NUMBERS]) -> bool
     if a[FORMAT] > 255 {
         return false;
     }
-    if a[DEPTH] > 255 {
+    if a[LUMA_DEPTH] > 255 {
+        return false;
+    }
+    if a[CHROMA_DEPTH] > 255 {
         return false;
     }
     if a[LUMA] > 1 {
@@ -77,10 +83,15 @@ fn state_of(a: &[u32; NUMBERS]) -> State
     let height = a[HEIGHT];
     let ctb = a[CTB];
     let format = a[FORMAT] as u8;
-    let depth = a[DEPTH] as u8;
+    let luma_depth = a[LUMA_DEPTH] as u8;
+    let chroma_depth = a[CHROMA_DEPTH] as u8;
     let luma = a[LUMA] != 0;
     let chroma = a[CHROMA] != 0;
     let next = a[NEXT];
+    let depth = BitDepths {
+        luma: luma_depth,
+        chroma: chroma_depth,
+    };
     let picture = Picture {
         width,
         height,
@@ -99,12 +110,14 @@ fn numbers_of(s: State) -> [u32; NUMBERS]
     ensures { λ r. ⌜ r ≡ numbersOf s ⌝ }
 {
     let p = s.picture;
+    let d = p.depth;
     let mut a = [0; NUMBERS];
     a[WIDTH] = p.width;
     a[HEIGHT] = p.height;
     a[CTB] = p.ctb;
     a[FORMAT] = p.format as u32;
-    a[DEPTH] = p.depth as u32;
+    a[LUMA_DEPTH] = d.luma as u32;
+    a[CHROMA_DEPTH] = d.chroma as u32;
     a[LUMA] = p.luma as u32;
     a[CHROMA] = p.chroma as u32;
     a[NEXT] = s.next;

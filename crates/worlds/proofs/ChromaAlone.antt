@@ -9,6 +9,7 @@ use lib.ListN.{replicate}
 use Rattle.standard.specs.declared.Offsets.the-variants.{Off, Edge}
 use Rattle.standard.specs.declared.CtuSet.{CtuSet}
 use Rattle.standard.specs.Reasons.{Planes}
+use Rattle.standard.proofs.Depths.{alike}
 use Rattle.promises.specs.World.{World}
 use Rattle.promises.specs.Demands.{after}
 use Rattle.promises.specs.Ours.{ours}
@@ -38,7 +39,7 @@ filteredRow (suc (suc i)) y =
 
 abbrev pub chroma : Setup
 chroma = record {
-  picture = record { width = 40; height = 8; ctb = 32; format = 1; depth = 10; luma = false; chroma = true };
+  picture = record { width = 40; height = 8; ctb = 32; format = 1; depth = alike 10; luma = false; chroma = true };
   sets = tinted ∷ tinted ∷ [];
   deblocked = deblockedRow;
   filtered = filteredRow;

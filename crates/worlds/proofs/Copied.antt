@@ -9,6 +9,7 @@ use lib.ListN.{replicate}
 use Rattle.standard.specs.declared.Offsets.the-variants.{Band}
 use Rattle.standard.specs.Sets.{allOff}
 use Rattle.standard.proofs.Cases.{ofLuma}
+use Rattle.standard.proofs.Depths.{alike}
 use Rattle.promises.specs.World.{World}
 use Rattle.promises.specs.Demands.{after}
 use Rattle.promises.specs.Ours.{ours}
@@ -18,7 +19,7 @@ use Rattle.worlds.proofs.Lives.{Story, start, inTime, eventsIn, callsAl
 
 abbrev pub copied : Setup
 copied = record {
-  picture = record { width = 8; height = 8; ctb = 64; format = 1; depth = 9; luma = false; chroma = false };
+  picture = record { width = 8; height = 8; ctb = 64; format = 1; depth = alike 9; luma = false; chroma = false };
   sets = allOff ∷ [];
   deblocked = λ i y. cond (ltb i 1) (replicate 8 511) (replicate 4 300);
   filtered = λ i y. cond (ltb i 1) (replicate 8 511) (replicate 4 300);

@@ -10,6 +10,7 @@ use lib.ListN.{replicate}
 use Rattle.standard.specs.declared.Offsets.the-variants.{Band, Edge}
 use Rattle.standard.specs.declared.CtuSet.{CtuSet}
 use Rattle.standard.proofs.Cases.{ofLuma}
+use Rattle.standard.proofs.Depths.{alike}
 use Rattle.promises.specs.World.{World, Filter, Deliver}
 use Rattle.promises.specs.Demands.{after}
 use Rattle.promises.specs.Ours.{ours}
@@ -47,7 +48,7 @@ filteredRow i y =
 
 abbrev pub deep : Setup
 deep = record {
-  picture = record { width = 72; height = 8; ctb = 64; format = 0; depth = 16; luma = true; chroma = false };
+  picture = record { width = 72; height = 8; ctb = 64; format = 0; depth = alike 16; luma = true; chroma = false };
   sets = edged ∷ banded ∷ [];
   deblocked = λ i y. times 9 eight;
   filtered = filteredRow;

@@ -2,11 +2,11 @@
 use mathlib.Core.List.{[], _∷_}
 use Rattle.promises.specs.World.{World, Call, Stage}
 use Rattle.promises.specs.Contract.{Contract}
-use Rattle.worlds.specs.Wrong.{refusesEverything, readsAsOff, onlyMarks, neverWrites, firstBlockOnly, inventedCount, inventedRows, trustsTheCount, readsPastTheCount, filtersInPlace, waitsForOwnOnly, everyFormatIs420}
+use Rattle.worlds.specs.Wrong.{refusesEverything, readsAsOff, onlyMarks, neverWrites, firstBlockOnly, inventedCount, inventedRows, trustsTheCount, readsPastTheCount, filtersInPlace, waitsForOwnOnly, everyFormatIs420, chromaInLumasDepth}
 use Rattle.promises.proofs.First.{first}
 use Rattle.promises.proofs.Second.{second}
 use Rattle.promises.proofs.Third.{third}
-use Rattle.worlds.proofs.Refuted.{refuses-everything, reads-as-off, only-marks, never-writes, first-block-only, invented-count, invented-rows, trusts-the-count, reads-past-the-count, filters-in-place, waits-for-own-only, every-format-is-420}
+use Rattle.worlds.proofs.Refuted.{refuses-everything, reads-as-off, only-marks, never-writes, first-block-only, invented-count, invented-rows, trusts-the-count, reads-past-the-count, filters-in-place, waits-for-own-only, every-format-is-420, chroma-in-lumas-depth}
 
 abbrev pub Meets : Stage → Type 0
 Meets stage = (c : Call) (w : World) → Contract c w (stage c w)
@@ -24,6 +24,7 @@ pub record Excluded : Type 0 where
   pub filters-in-place : ¬ Meets filtersInPlace
   pub waits-for-own-only : ¬ Meets waitsForOwnOnly
   pub every-format-is-420 : ¬ Meets everyFormatIs420
+  pub chroma-in-lumas-depth : ¬ Meets chromaInLumasDepth
 
 pub excluded : Excluded
 excluded = record {
@@ -39,4 +40,5 @@ excluded = record {
   filters-in-place = λ m. filters-in-place (second filtersInPlace m);
   waits-for-own-only = λ m. waits-for-own-only (first waitsForOwnOnly m);
   every-format-is-420 = λ m. every-format-is-420 (first everyFormatIs420 m);
+  chroma-in-lumas-depth = λ m. chroma-in-lumas-depth (second chromaInLumasDepth m);
 }

@@ -1,6 +1,6 @@
--- FOUR CTUs in two rows, in colour at depth 12: 24x24 with CTB size 16 and chroma 12x12, so that the second column is 8 wide and the second row
--- 8 high, or 4 in chroma; both switches are on. No premise that a picture has two CTUs at most, or one row or one column of them, or whole CTBs, or
--- depth 8, or no chroma, or that a read is of CTU 0, holds here.
+-- FOUR CTUs in two rows, with luma at depth 12 and chroma at depth 8: 24x24 with CTB size 16 and chroma 12x12, so that the second column is 8 wide
+-- and the second row 8 high, or 4 in chroma; both switches are on. No premise that a picture has two CTUs at most, or one row or one column of them,
+-- or whole CTBs, or no chroma, or one depth for luma and chroma, or that a read is of CTU 0, holds here.
 use mathlib.Core.Path.{_≡_, refl, ap, _∙_}
 use mathlib.Core.Bool.{true, cond}
 use mathlib.Core.List.{List, [], _∷_, _++_}
@@ -11,25 +11,26 @@ use lib.ListN.{getD, drop, replicate}
 use Rattle.standard.specs.declared.Offsets.the-variants.{Off, Band, Edge}
 use Rattle.standard.specs.declared.CtuSet.{CtuSet}
 use Rattle.standard.specs.Reasons.{Planes}
-use Rattle.promises.specs.World.{World, Filter, Rows}
+use Rattle.standard.proofs.Depths.{depths}
+use Rattle.promises.specs.World.{World, Deliver, Filter, Rows}
 use Rattle.promises.specs.Demands.{after}
 use Rattle.promises.specs.Ours.{ours}
 use Rattle.worlds.proofs.Small.{deciding}
 use Rattle.worlds.proofs.Events.{Setup, inRows, worldAt, lent, delivers, filters, reads, writes, counts, refuses, Happen, until, happen-on, known?}
 use Rattle.worlds.proofs.Lives.{Story, start, dueTime, inTime, callsAll, eventsAll, ComputedDue, ComputedLife, Promised, promised, ends}
 
--- offsets act times 4
+-- luma's offsets act times 4, and chroma's as coded
 abbrev pub edged : CtuSet
 edged = record {
   luma = Edge 2 (pos 2) (pos 1) (negsuc 0) (negsuc 1);
   cb = Edge 1 (pos 2) (pos 1) (negsuc 0) (negsuc 1);
-  cr = Edge 1 (pos 31) (pos 0) (pos 0) (negsuc 30);
+  cr = Edge 1 (pos 7) (pos 0) (pos 0) (negsuc 6);
 }
 
 abbrev pub banded : CtuSet
 banded = record {
   luma = Band 3 (pos 1) (negsuc 1) (pos 0) (pos 0);
-  cb = Band 31 (pos 31) (negsuc 30) (pos 0) (pos 0);
+  cb = Band 31 (pos 7) (negsuc 6) (pos 0) (pos 0);
   cr = Band 31 (pos 0) (negsuc 0) (pos 0) (pos 0);
 }
 
@@ -41,10 +42,10 @@ abbrev pub lumaRow : List ℕ
 lumaRow = eight ++ (eight ++ eight)
 
 abbrev pub cbColumn : List ℕ
-cbColumn = 4000 ∷ 100 ∷ 4000 ∷ 4000 ∷ 2000 ∷ 2000 ∷ 100 ∷ 100 ∷ 4000 ∷ 100 ∷ 4000 ∷ 4000 ∷ []
+cbColumn = 250 ∷ 6 ∷ 250 ∷ 250 ∷ 125 ∷ 125 ∷ 6 ∷ 6 ∷ 250 ∷ 6 ∷ 250 ∷ 250 ∷ []
 
 abbrev pub crColumn : List ℕ
-crColumn = 4090 ∷ 4000 ∷ 4090 ∷ 4090 ∷ 4095 ∷ 4095 ∷ 50 ∷ 50 ∷ 4000 ∷ 3 ∷ 4000 ∷ 4000 ∷ []
+crColumn = 252 ∷ 250 ∷ 252 ∷ 252 ∷ 255 ∷ 255 ∷ 3 ∷ 3 ∷ 250 ∷ 3 ∷ 250 ∷ 250 ∷ []
 
 -- each row of luma is the same, and a row of chroma is one sample all along
 abbrev pub deblockedRow : ℕ → ℕ → List ℕ
@@ -67,15 +68,15 @@ byEdges y = cond (ltb y 1) lumaRow (cond (ltb y 23) edgedRow lumaRow)
 abbrev pub filteredRow : ℕ → ℕ → List ℕ
 filteredRow zero y = cond (ltb y 16) (byEdges y) (bandedPart ++ drop 16 (byEdges y))
 filteredRow (suc zero) y =
-    replicate 8 (getD (4000 ∷ 108 ∷ 3996 ∷ 3996 ∷ 2004 ∷ 1996 ∷ 104 ∷ 104 ∷ 4095 ∷ 0 ∷ 4095 ∷ 4095 ∷ []) y 0)
-    ++ replicate 4 (getD (4000 ∷ 108 ∷ 3996 ∷ 3996 ∷ 2004 ∷ 1996 ∷ 104 ∷ 104 ∷ 3992 ∷ 108 ∷ 3996 ∷ 4000 ∷ []) y 0)
+    replicate 8 (getD (250 ∷ 8 ∷ 249 ∷ 249 ∷ 126 ∷ 124 ∷ 7 ∷ 7 ∷ 255 ∷ 0 ∷ 255 ∷ 255 ∷ []) y 0)
+    ++ replicate 4 (getD (250 ∷ 8 ∷ 249 ∷ 249 ∷ 126 ∷ 124 ∷ 7 ∷ 7 ∷ 248 ∷ 8 ∷ 249 ∷ 250 ∷ []) y 0)
 filteredRow (suc (suc i)) y =
-    replicate 8 (getD (4090 ∷ 4095 ∷ 4090 ∷ 4090 ∷ 4095 ∷ 4095 ∷ 50 ∷ 50 ∷ 4000 ∷ 0 ∷ 4000 ∷ 4000 ∷ []) y 0)
-    ++ replicate 4 (getD (4090 ∷ 4095 ∷ 4090 ∷ 4090 ∷ 4095 ∷ 4095 ∷ 50 ∷ 50 ∷ 3876 ∷ 127 ∷ 4000 ∷ 4000 ∷ []) y 0)
+    replicate 8 (getD (252 ∷ 255 ∷ 252 ∷ 252 ∷ 255 ∷ 255 ∷ 3 ∷ 3 ∷ 250 ∷ 2 ∷ 250 ∷ 250 ∷ []) y 0)
+    ++ replicate 4 (getD (252 ∷ 255 ∷ 252 ∷ 252 ∷ 255 ∷ 255 ∷ 3 ∷ 3 ∷ 243 ∷ 10 ∷ 250 ∷ 250 ∷ []) y 0)
 
 abbrev pub four : Setup
 four = record {
-  picture = record { width = 24; height = 24; ctb = 16; format = 1; depth = 12; luma = true; chroma = true };
+  picture = record { width = 24; height = 24; ctb = 16; format = 1; depth = depths 12 8; luma = true; chroma = true };
   sets = edged ∷ edged ∷ banded ∷ edged ∷ [];
   deblocked = deblockedRow;
   filtered = filteredRow;
@@ -88,12 +89,12 @@ story = record {
   signalling =
       delivers 0 3
       ∷ refuses (Filter 0 0) 10
-      ∷ writes (replicate 13 9) 92 (245 ∷ 107 ∷ 213 ∷ 159 ∷ 255 ∷ 255 ∷ 255 ∷ 231 ∷ 255 ∷ 255 ∷ 255 ∷ 240 ∷ 9 ∷ [])
+      ∷ writes (replicate 7 9) 44 (245 ∷ 107 ∷ 213 ∷ 159 ∷ 231 ∷ 240 ∷ 9 ∷ [])
       ∷ reads (128 ∷ []) 1
       ∷ delivers 0 0
       ∷ delivers 0 1
       ∷ refuses (Filter 0 1) 10
-      ∷ reads (86 ∷ 17 ∷ 223 ∷ 255 ∷ 255 ∷ 255 ∷ 255 ∷ 255 ∷ 255 ∷ 255 ∷ 143 ∷ 209 ∷ 248 ∷ []) 101
+      ∷ reads (86 ∷ 17 ∷ 223 ∷ 255 ∷ 143 ∷ 209 ∷ 248 ∷ []) 53
       ∷ counts 0 0
       ∷ delivers 0 2
       ∷ filters 0 0
@@ -111,6 +112,7 @@ story = record {
       ∷ delivers 1 2
       ∷ refuses (Filter 1 0) 10
       ∷ delivers 1 3
+      ∷ refuses (Deliver 2 1 (replicate 32 256)) 8
       ∷ delivers 2 1
       ∷ delivers 2 2
       ∷ delivers 2 0
@@ -136,7 +138,8 @@ story = record {
       ∷ refuses (Filter 1 3) 11
       ∷ counts 1 12
       ∷ [];
-  strange = record { luma = Band 0 (pos 32) (pos 0) (pos 0) (pos 0); cb = Off; cr = Off };
+  -- a magnitude that is within luma's depth and beyond chroma's
+  strange = record { luma = Off; cb = Band 0 (pos 8) (pos 0) (pos 0) (pos 0); cr = Band 0 (pos 0) (pos 0) (pos 0) (pos 0) };
 }
 
 computed-due : ComputedDue story
@@ -160,7 +163,7 @@ signals = ((refl, tt), ((refl, tt), ((refl, tt), ((refl, tt), ((refl, tt), ((ref
 
 arrives : Happen four (dueTime story) (reads (64 ∷ []) 2 ∷ story .arriving)
 unfolding deciding
-arrives = ((refl, tt), ((refl, tt), ((refl, tt), ((refl, tt), ((refl, tt), ((refl, tt), ((refl, tt), ((refl, tt), ((refl, tt), ((refl, tt), ((refl, tt), ((refl, tt), tt))))))))))))
+arrives = ((refl, tt), ((refl, tt), ((refl, tt), ((refl, tt), ((refl, tt), ((refl, tt), ((refl, tt), ((refl, tt), ((refl, tt), ((refl, tt), ((refl, tt), ((refl, tt), ((refl, tt), tt)))))))))))))
 
 finishes : Happen four (inTime story) (story .finishing)
 unfolding deciding

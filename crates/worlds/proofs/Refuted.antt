@@ -2,23 +2,25 @@
 use mathlib.Core.Path.{_≡_, refl, sym, ap, subst}
 use mathlib.Core.List.{[], _∷_}
 use mathlib.Core.Logic.{inl, inr}
-use Prim.Native.Nat.{_*_, min}
+use Prim.Native.Nat.{ℕ, _*_, min}
 use native.Mathlib.Omega.{arith}
 use lib.Dec.{lit<, lit≤}
 use lib.ListN.{replicate}
-use Rattle.standard.specs.declared.Offsets.the-variants.{Off}
+use Rattle.standard.specs.declared.Offsets.{Offsets}
+use Rattle.standard.specs.declared.Offsets.the-variants.{Off, Band, Edge}
+use Rattle.standard.specs.declared.CtuSet.{CtuSet}
 use Rattle.standard.specs.Sets.{allOff}
 use Rattle.standard.specs.Bins.{binsOf}
-use Rattle.standard.proofs.Cases.{ofLuma, case5}
-use Rattle.standard.proofs.Codes.{never}
-use Rattle.standard.proofs.Decisions.{differ, refused-with}
+use Rattle.standard.proofs.Cases.{ofLuma, case5, uneven, misread, lost}
+use Rattle.standard.proofs.Codes.{Got, got, short, never}
+use Rattle.standard.proofs.Decisions.{differ, refused-with, accepted}
 use Rattle.standard.proofs.Reader.{meant-is-got}
 use Rattle.promises.specs.World.{Read, Deliver, Filter, Answer, refused, done, set-read, bins-written, rows, Accepted, Result}
 use Rattle.promises.specs.Demands.{Demand1, Demand2, Demand3}
 use Rattle.promises.specs.Ours.{verdictOf}
 use Rattle.promises.proofs.Second.{reads-clear, reads-as-meant}
-use Rattle.worlds.specs.Wrong.{refusesEverything, readsAsOff, onlyMarks, neverWrites, firstBlockOnly, inventedCount, inventedRows, trustsTheCount, readsPastTheCount, filtersInPlace, waitsForOwnOnly, everyFormatIs420}
-use Rattle.worlds.proofs.Small.{computing, deciding, apart, lives, edgy, edgyBytes, edgyCount, own8, before8, opened8, ready8, calls8, own24, before24, half24, calls24, tall24, halved, lengths8, lengths24, due8, means-edgy}
+use Rattle.worlds.specs.Wrong.{refusesEverything, readsAsOff, onlyMarks, neverWrites, firstBlockOnly, inventedCount, inventedRows, trustsTheCount, readsPastTheCount, filtersInPlace, waitsForOwnOnly, everyFormatIs420, chromaInLumasDepth}
+use Rattle.worlds.proofs.Small.{computing, deciding, apart, lives, edgy, edgyBytes, edgyCount, own8, before8, opened8, ready8, calls8, own24, before24, half24, calls24, tall24, halved, opened10-8, lengths8, lengths24, due8, means-edgy}
 
 -- ---- a stage that refuses everything, or reads every CTU as off
 
@@ -146,3 +148,25 @@ unfolding everyFormatIs420 computing
 every-format-is-420 d =
     let block = Deliver 1 0 (replicate 16 8) in
     accepting (sym (d .refuses block halved 2 (refused-with (verdictOf block halved) tt))) tt
+
+-- ---- document 02's K3: the feed that lost its place in the bins
+
+-- the class that is read for Cb, where it has one
+abbrev classIn : Offsets → ℕ
+classIn Off = 4
+classIn (Band position o1 o2 o3 o4) = 4
+classIn (Edge class o1 o2 o3 o4) = class
+
+abbrev classOfCb : Got CtuSet → ℕ
+classOfCb (got q beyond) = classIn (q .cb)
+classOfCb short = 4
+
+-- case 22's bins are read as another set
+pub chroma-in-lumas-depth : Demand2 chromaInLumasDepth → ⊥
+unfolding chromaInLumasDepth computing
+chroma-in-lumas-depth d = apart 0 1 tt (ap classOfCb (meant-is-got (d .reads-only uneven 35 opened10-8 misread refl .0)))
+
+-- and case 23's, which end with the CTU, are refused
+pub chroma-in-lumas-depth-refusing : Demand2 chromaInLumasDepth → ⊥
+unfolding chromaInLumasDepth computing
+chroma-in-lumas-depth-refusing d = accepting (d .reads lost 19 opened10-8 (accepted (verdictOf (Read lost 19) opened10-8) (λ h. h)) .2) tt

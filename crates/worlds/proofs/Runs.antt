@@ -9,6 +9,7 @@ use Rattle.standard.specs.declared.CtuSet.{CtuSet}
 use Rattle.standard.specs.declared.Offsets.the-variants.{Off, Edge}
 use Rattle.standard.specs.Table.{entrySize}
 use Rattle.standard.proofs.Computing.{definitions}
+use Rattle.standard.proofs.Depths.{alike}
 use Rattle.promises.specs.World.{World, Open, Read, Write, Deliver, Filter, Rows, refused, done, set-read, rows}
 use Rattle.promises.specs.Demands.{run}
 use Rattle.promises.specs.Ours.{ours, act}
@@ -16,7 +17,7 @@ use Rattle.promises.specs.Ours.{ours, act}
 -- monochrome, 8 by 8, depth 8, luma on; as it is lent, with nothing in it right but its lengths
 abbrev lent : World
 lent = record {
-  state = record { picture = record { width = 8; height = 8; ctb = 16; format = 0; depth = 8; luma = true; chroma = false }; next = 7 };
+  state = record { picture = record { width = 8; height = 8; ctb = 16; format = 0; depth = alike 8; luma = true; chroma = false }; next = 7 };
   deblocked = record { y = replicate 64 9; cb = []; cr = [] };
   filtered = record { y = replicate 64 9; cb = []; cr = [] };
   marks = 3 ∷ [];

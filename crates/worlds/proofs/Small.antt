@@ -21,8 +21,9 @@ use Rattle.standard.specs.Table.{entrySize, encodeEntry}
 use Rattle.standard.specs.Reasons.{Planes, MeansHere}
 use Rattle.standard.specs.Calls.{delivered}
 use Rattle.standard.proofs.Computing.{definitions}
-use Rattle.standard.proofs.Cases.{mono, ofLuma, everywhere}
+use Rattle.standard.proofs.Cases.{mono, colourOf, ofLuma, everywhere}
 use Rattle.standard.proofs.Decisions.{differ, by-iff, or?, some?}
+use Rattle.standard.proofs.Depths.{depths, alike}
 use Rattle.standard.proofs.Rasters.{inside?}
 use Rattle.standard.proofs.Judging.{rules?, same-set?}
 use Rattle.standard.proofs.Reader.{got-is-meant}
@@ -243,7 +244,19 @@ abbrev pub halved : World
 halved =
     let planes : Planes = record { y = replicate 64 7; cb = replicate 16 7; cr = replicate 16 7 } in
     record {
-      state = record { picture = record { width = 8; height = 8; ctb = 16; format = 2; depth = 8; luma = true; chroma = true }; next = 0 };
+      state = record { picture = record { width = 8; height = 8; ctb = 16; format = 2; depth = alike 8; luma = true; chroma = true }; next = 0 };
+      deblocked = planes;
+      filtered = planes;
+      marks = 0 ∷ 0 ∷ 0 ∷ [];
+      table = replicate entrySize 9;
+    }
+
+-- 8x8 in 4:4:4 with luma at 10 and chroma at 8, opened
+abbrev pub opened10-8 : World
+opened10-8 =
+    let planes : Planes = record { y = replicate 64 7; cb = replicate 64 7; cr = replicate 64 7 } in
+    record {
+      state = record { picture = colourOf (depths 10 8) 8 8; next = 0 };
       deblocked = planes;
       filtered = planes;
       marks = 0 ∷ 0 ∷ 0 ∷ [];

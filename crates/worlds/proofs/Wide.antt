@@ -11,6 +11,7 @@ use lib.ListN.{getD, replicate}
 use Rattle.standard.specs.declared.Offsets.the-variants.{Off, Band, Edge}
 use Rattle.standard.specs.declared.CtuSet.{CtuSet}
 use Rattle.standard.specs.Reasons.{Planes}
+use Rattle.standard.proofs.Depths.{alike}
 use Rattle.promises.specs.World.{World, Deliver, Filter, Rows}
 use Rattle.promises.specs.Demands.{after}
 use Rattle.promises.specs.Ours.{ours}
@@ -66,7 +67,7 @@ filteredRow w (suc (suc i)) y = partedRow w y crEdged crBanded
 -- by the format, and how wide it makes a whole chroma CTB
 abbrev pub wide : ℕ → ℕ → Setup
 wide format w = record {
-  picture = record { width = 24; height = 24; ctb = 16; format = format; depth = 8; luma = true; chroma = true };
+  picture = record { width = 24; height = 24; ctb = 16; format = format; depth = alike 8; luma = true; chroma = true };
   sets = edged ∷ edged ∷ banded ∷ edged ∷ [];
   deblocked = deblockedRow w;
   filtered = filteredRow w;

@@ -1,6 +1,6 @@
 -- Nothing is promised for want of a case: for every premise of a demand a small world in which it holds of the stage, computed.
 use mathlib.Core.Path.{_≡_, refl, ap, subst}
-use mathlib.Core.Bool.{Bool, true}
+use mathlib.Core.Bool.{Bool, true, false}
 use mathlib.Core.List.{List, [], _∷_, _++_}
 use mathlib.Core.Logic.{inl, inr, Dec·not}
 use mathlib.Core.Option.{none}
@@ -18,13 +18,15 @@ use Rattle.standard.specs.Samples.{planeBy}
 use Rattle.standard.specs.Table.{entrySize, encodeEntry}
 use Rattle.standard.specs.Refusals.{First, Clear}
 use Rattle.standard.specs.Reasons.{Planes, planeOf, leftSet, upperSet, MeansHere, ShortestHere}
-use Rattle.standard.proofs.Cases.{mono, ofLuma, everywhere, case5}
+use Rattle.standard.proofs.Cases.{mono, colourOf, ofLuma, everywhere, case5}
 use Rattle.standard.proofs.Codes.{got}
+use Rattle.standard.proofs.Depths.{depths, alike}
 use Rattle.standard.proofs.Decisions.{differ, Verdict, refusal, clear, numberIn, IsRefusal, accepted}
 use Rattle.standard.proofs.Judging.{rules?, valid?}
 use Rattle.standard.proofs.Reader.{readCtu, got-is-meant}
 use Rattle.standard.proofs.Refusing.{not-there, sound?, unit-due?}
 use Rattle.standard.proofs.Spelling.{no-bins-at-all}
+use Rattle.standard.proofs.TwoDepths.{inDepths}
 use Rattle.promises.specs.World.{World, Call, Open, Read, Write, Deliver, Filter, Rows, refused, set-read, bins-written, rows, Accepted, reasonsOf}
 use Rattle.promises.specs.Contract.{appended, unchanged}
 use Rattle.promises.specs.Demands.{Lengths, Due, Own, Life, Done, after, setsIn, Filters, Delivers}
@@ -89,6 +91,26 @@ unfolding computing
 each-number =
     refused-from 1 fourteen
     (tt, refl, (tt, refl, (tt, refl, (tt, refl, (tt, refl, (tt, refl, (tt, refl, (tt, refl, (tt, refl, (tt, refl, (tt, refl, (tt, refl, (tt, refl, (tt, refl, tt))))))))))))))
+
+-- 1 for the depths: a description with a mark lent for each component
+abbrev pub described : Picture → World
+described p = world p 0 [] [] (replicate (components p) 0) []
+
+abbrev pub Misdescribed : Picture → Type 0
+Misdescribed p = First (reasonsOf Open (described p)) 1 × (ours Open (described p) ≡ unchanged Open (described p) 1)
+
+-- either is outside 8 to 16, or in monochrome chroma's is another
+pub luma-at-17 : Misdescribed (colourOf (depths 17 8) 8 8)
+unfolding computing
+luma-at-17 = refusing Open (described (colourOf (depths 17 8) 8 8)) 1 tt refl
+
+pub chroma-at-7 : Misdescribed (colourOf (depths 8 7) 8 8)
+unfolding computing
+chroma-at-7 = refusing Open (described (colourOf (depths 8 7) 8 8)) 1 tt refl
+
+pub two-in-monochrome : Misdescribed (inDepths (depths 10 8) (mono 8 8))
+unfolding computing
+two-in-monochrome = refusing Open (described (inDepths (depths 10 8) (mono 8 8))) 1 tt refl
 
 -- ---- demand 2: reading
 
@@ -270,7 +292,7 @@ half-output = refl
 -- ---- the same in 4:2:0: 8x8, a component of 64 samples and two of 16, the set by a write
 
 abbrev pub colour : Picture
-colour = record { width = 8; height = 8; ctb = 16; format = 1; depth = 8; luma = true; chroma = true }
+colour = record { width = 8; height = 8; ctb = 16; format = 1; depth = alike 8; luma = true; chroma = true }
 
 abbrev pub colourful : CtuSet
 colourful = record { luma = edgy .luma; cb = case5; cr = Band 31 (pos 7) (pos 0) (pos 0) (pos 0) }

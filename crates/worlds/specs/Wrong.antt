@@ -15,9 +15,12 @@ use Rattle.standard.specs.Samples.{Parameters, at, filteredSample}
 use Rattle.standard.specs.Table.{parametersIn}
 use Rattle.standard.specs.Reasons.{planeOf, markOf, leftSet, upperSet}
 use Rattle.standard.proofs.Codes.{Got, got, short}
+use Rattle.standard.proofs.Depths.{alike}
 use Rattle.standard.proofs.Formats.{inFormat}
+use Rattle.standard.proofs.Judging.{rules?}
 use Rattle.standard.proofs.Rasters.{inside?}
 use Rattle.standard.proofs.Reader.{readCtu}
+use Rattle.standard.proofs.TwoDepths.{inDepths}
 use Rattle.promises.specs.World.{World, pictureOf, Open, Read, Write, Deliver, Filter, Rows, Answer, refused, done, set-read, bins-written, rows, Result, Stage}
 use Rattle.promises.specs.Contract.{appended, withFiltered, unchanged}
 use Rattle.promises.specs.Ours.{choose, withPlane, paintedIn, ours}
@@ -197,8 +200,20 @@ picturedAs p w = record {
   table = w .table;
 }
 
+-- the stage, of another picture than it is told
+abbrev pub seeing : (Picture → Picture) → Stage
+seeing f c w =
+    let r = ours c (picturedAs (f (pictureOf w)) w) in
+    record { answer = r .answer; out = r .out; world = picturedAs (pictureOf w) (r .world) }
+
 unfoldable pub everyFormatIs420 : Stage
 unfolding ours
-everyFormatIs420 c w =
-    let r = ours c (picturedAs (in420 (pictureOf w)) w) in
-    record { answer = r .answer; out = r .out; world = picturedAs (pictureOf w) (r .world) }
+everyFormatIs420 = seeing in420
+
+-- K3: chroma taken to have luma's depth; a description that breaks a rule still does
+abbrev pub inLumasDepth : Picture → Picture
+inLumasDepth p = choose (rules? p) (inDepths (alike (p .depth .luma)) p) p
+
+unfoldable pub chromaInLumasDepth : Stage
+unfolding ours rules?
+chromaInLumasDepth = seeing inLumasDepth

@@ -17,10 +17,11 @@ element. HEX is the bins' bytes, packed from the most significant bit of the fir
 put in quotes. COUNT says how many bins there are.
 
 options:
-  --depth N          bit depth, 8 to 16; without it 8
+  --depth N          luma's bit depth, 8 to 16; without it 8
+  --chroma-depth N   that of Cb and Cr, 8 to 16; without it luma's. Where chroma is off, no bin goes by it
   --luma on|off      the luma switch; without it on
-  --chroma on|off    on: a picture with chroma, which is filtered; its bins are the same in 4:2:0, 4:2:2 and 4:4:4;
-                     without it off: a monochrome one
+  --chroma on|off    the chroma switch; without it off. On, the bins are the same in 4:2:0, 4:2:2 and 4:4:4; off, they
+                     are those of a monochrome picture too
   --left SET         the CTU has a left neighbour with this set
   --up SET           the CTU has an upper neighbour with this set
   --set SET          writes this set
@@ -28,8 +29,9 @@ options:
 A SET is LUMA/CB/CR, each of them off, band:POSITION:A,B,C,D or edge:CLASS:A,B,C,D with four offsets as coded, signs put
 in; what is left out at the end is off. Or it is the 36 hex digits of a table entry. POSITION is the first of the four
 bands, 0 to 31. CLASS says which neighbours are compared: 0 left and right, 1 above and below, 2 upper left and lower
-right, 3 upper right and lower left. Offsets are at most 7 either way at depth 8, 15 at depth 9 and 31 above; of an
-edge's, the first two are not negative, the last two not positive. Cr has Cb's type and CLASS.
+right, 3 upper right and lower left. Offsets are at most 7 either way at depth 8, 15 at depth 9 and 31 above, by the
+component's own depth; of an edge's, the first two are not negative, the last two not positive. Cr has Cb's type and
+CLASS.
 
 The CTU is the last of a picture of as many CTUs of 64x64 as its neighbours ask for. What the bins mean, and whether they
 are refused, the stage says; a refusal is on the error stream with its number.
@@ -39,13 +41,21 @@ examples:
   steamgusset bins '9C AF 00' 17
   steamgusset bins --set edge:2:1,0,0,-2
   steamgusset bins --chroma on --set off/band:30:0,-3,0,1/band:2:1,1,1,1
+  steamgusset bins --depth 10 --chroma-depth 8 --chroma on --set edge:0:31,0,0,0/edge:0:7,0,0,0/edge:0:0,0,0,-7
   steamgusset bins --left edge:2:1,0,0,-2 --up off 80 1
 
 exit status: 0 read or written; 1 refused; 2 a bad command line
 ";
 
-const OPTIONS: [Known; 6] =
-    [long("--depth"), long("--luma"), long("--chroma"), long("--left"), long("--up"), long("--set")];
+const OPTIONS: [Known; 7] = [
+    long("--depth"),
+    long("--chroma-depth"),
+    long("--luma"),
+    long("--chroma"),
+    long("--left"),
+    long("--up"),
+    long("--set"),
+];
 
 const CTB: u32 = 64;
 
@@ -87,23 +97,25 @@ struct Ctu {
 impl Ctu {
     fn parse(arguments: &Arguments) -> Result<Ctu, Mistake> {
         let (left, up) = (set(arguments, "--left")?, set(arguments, "--up")?);
-        let chroma = arguments.switch("--chroma", false)?;
+        let luma_depth = arguments.number("--depth", 8, 16, 8)?;
         let side = |neighbour: Option<CtuSet>| if neighbour.is_some() { 2 * CTB } else { CTB };
         let picture = Picture {
             width: side(left),
             height: side(up),
             ctb: CTB,
-            format: if chroma { ChromaFormat::Chroma420 } else { ChromaFormat::Monochrome },
-            depth: arguments.number("--depth", 8, 16, 8)?,
+            // No bin goes by the format: where chroma is off, a picture with chroma has those of a monochrome one.
+            format: ChromaFormat::Chroma420,
+            luma_depth,
+            chroma_depth: arguments.number("--chroma-depth", 8, 16, luma_depth)?,
             luma: arguments.switch("--luma", true)?,
-            chroma,
+            chroma: arguments.switch("--chroma", false)?,
         };
         Ok(Ctu { picture, left, up })
     }
 
     fn syntax(&self) -> Syntax {
-        let Picture { luma, chroma, depth, .. } = self.picture;
-        let largest = usize::from(largest(depth));
+        let Picture { luma, chroma, .. } = self.picture;
+        let largest = [0, 1, 2].map(|component| largest(&self.picture, component).into());
         Syntax { luma, chroma, left: self.left.is_some(), up: self.up.is_some(), largest }
     }
 

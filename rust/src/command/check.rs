@@ -3,7 +3,7 @@
 use super::arguments::{Arguments, long};
 use super::input::Input;
 use super::progress::Progress;
-use super::run::{NAMES, Run, changed, format_name};
+use super::run::{NAMES, Run, changed, depth_name, format_name};
 use super::shuffle::shuffled;
 use super::vector::{Unfit, Vector};
 use super::{Ended, Mistake, Status, say};
@@ -24,13 +24,13 @@ options:
 
 One FILE may be -, the standard input; a file of that name is ./-. After -- every word is a file.
 
-A line a file: its name, size, format, depth, CTB size; for each component its CTUs that are off/band/edge; how many
-samples the filter changed; nanoseconds per sample, in which only the calls write, read, deliver, filter (also the early
-ones, which are refused) and finished rows are timed; and whether it agrees. A picture that the stage does not cover yet is
-named with the reason; it changes nothing in the exit status. If its header shows that, the rest is not read: only the
-length is judged, where the system knows it, as it does not of a pipe. A file that is damaged or cannot be read gets a
-sentence on the error stream. The last line counts the files, each kind apart, and the blocks that were filtered before
-the last delivery of their picture: the order of the calls decides how many.
+A line a file: its name, size, format, depth (12/8 where luma's is 12 and chroma's 8), CTB size; for each component its
+CTUs that are off/band/edge; how many samples the filter changed; nanoseconds per sample, in which only the calls write,
+read, deliver, filter (also the early ones, which are refused) and finished rows are timed; and whether it agrees. A
+picture that the stage does not cover yet is named with the reason; it changes nothing in the exit status. If its header
+shows that, the rest is not read: only the length is judged, where the system knows it, as it does not of a pipe. A file
+that is damaged or cannot be read gets a sentence on the error stream. The last line counts the files, each kind apart,
+and the blocks that were filtered before the last delivery of their picture: the order of the calls decides how many.
 
 examples:
   steamgusset check vectors/*.sao
@@ -207,15 +207,16 @@ fn type_number(offsets: Offsets) -> usize {
 
 /// A picture's line after its file's name.
 fn line(report: &Report) -> String {
-    let Picture { width, height, ctb, depth, .. } = report.picture;
+    let Picture { width, height, ctb, luma_depth, chroma_depth, .. } = report.picture;
     let component = |of: usize| {
         let [off, band, edge] = report.types[of];
         format!("{} {off}/{band}/{edge}", NAMES[of])
     };
     let components: Vec<String> = (0..report.picture.components() as usize).map(component).collect();
     format!(
-        "{width}x{height} {} depth {depth} CTB {ctb}, off/band/edge {}, {} of {} samples changed, {} ns/sample: {}",
+        "{width}x{height} {} depth {} CTB {ctb}, off/band/edge {}, {} of {} samples changed, {} ns/sample: {}",
         format_name(&report.picture),
+        depth_name([luma_depth, chroma_depth]),
         components.join(" "),
         report.changed,
         report.samples,

@@ -8,8 +8,8 @@ pub struct Syntax {
     pub chroma: bool,
     pub left: bool,
     pub up: bool,
-    /// The largest magnitude, M.
-    pub largest: usize,
+    /// The largest magnitude, M, of luma, Cb and Cr.
+    pub largest: [usize; 3],
 }
 
 /// One syntax element as it stands in the bins.
@@ -65,15 +65,16 @@ impl Reader<'_> {
         if syntax.up && self.merge("sao_merge_up_flag", "the upper set is copied")? {
             return Some(());
         }
+        let [luma, cb, cr] = syntax.largest;
         if syntax.luma {
             let kind = self.kind("Y", "sao_type_idx_luma")?;
-            self.component("Y", kind, syntax.largest, Some("sao_eo_class_luma"))?;
+            self.component("Y", kind, luma, Some("sao_eo_class_luma"))?;
         }
         if syntax.chroma {
             let kind = self.kind("Cb", "sao_type_idx_chroma")?;
-            self.component("Cb", kind, syntax.largest, Some("sao_eo_class_chroma"))?;
+            self.component("Cb", kind, cb, Some("sao_eo_class_chroma"))?;
             // Cr takes Cb's type and class.
-            self.component("Cr", kind, syntax.largest, None)?;
+            self.component("Cr", kind, cr, None)?;
         }
         Some(())
     }

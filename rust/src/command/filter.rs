@@ -5,7 +5,7 @@ use super::compare::compared;
 use super::image::Image;
 use super::input::Input;
 use super::output::{Output, Target, write_all};
-use super::run::{NAMES, Run, changed, format_name};
+use super::run::{NAMES, Run, changed, depth_name, format_name};
 use super::shuffle::in_order;
 use super::vector::Vector;
 use super::{Ended, Mistake, Status, say};
@@ -25,7 +25,9 @@ options:
   -o, --output OUT.yuv   the filtered picture as planar YUV: all of Y, then Cb, then Cr, each as large as the format
                          makes it (4:0:0: Y alone), a byte a sample at depth 8, else two bytes, the low one first.
                          Players are told size and format: ffplay -f rawvideo -video_size 88x72 -pixel_format
-                         yuv422p10le (gray, yuv420p, yuv422p, yuv444p; with 10le at depth 10, and so on)
+                         yuv422p10le (gray, yuv420p, yuv422p, yuv444p; with 10le at depth 10, and so on). Where luma
+                         and chroma have different depths, every plane has two bytes a sample, with the values as
+                         they are; players know no such format
   --compare OUT.png      one image: before, after and difference side by side, reduced to 640 pixels or less, and below
                          each, enlarged 8 times, the same square of 48x48 luma samples, where luma changed most; a PPM
                          if the name ends in .ppm
@@ -37,8 +39,8 @@ FILE may be -, the standard input. OUT.yuv or OUT.png may be -, the standard out
 error stream. A file of that name is ./-. After -- every word is a file. Files are written to a temporary name first, so
 a failure leaves what was there, and one that is there keeps its permissions; the input is never written over.
 
-Colours are those of BT.709 in limited range. The difference is that of luma, in steps of the picture's depth: grey 128
-is no change, lighter is more.
+Colours are those of BT.709 in limited range, each component by its own depth. The difference is that of luma, in steps
+of luma's depth: grey 128 is no change, lighter is more. In the closing line, depth 12/8 is luma's 12 and chroma's 8.
 
 examples:
   steamgusset filter vectors/card_420_8_416x240.sao --compare card.png
@@ -62,7 +64,8 @@ const PPM: Kind = Kind { ending: "ppm", bytes: Image::to_ppm };
 
 /// The planes before and after.
 pub struct Planes<'a> {
-    pub depth: u8,
+    /// Luma's and chroma's.
+    pub depths: [u8; 2],
     pub sizes: Sizes,
     pub before: [&'a [u16]; 3],
     pub after: [&'a [u16]; 3],
@@ -70,11 +73,11 @@ pub struct Planes<'a> {
 
 impl Planes<'_> {
     pub fn image_before(&self) -> Image {
-        Image::of_planes(self.depth, &self.sizes, self.before)
+        Image::of_planes(self.depths, &self.sizes, self.before)
     }
 
     pub fn image_after(&self) -> Image {
-        Image::of_planes(self.depth, &self.sizes, self.after)
+        Image::of_planes(self.depths, &self.sizes, self.after)
     }
 
     pub fn image_of_difference(&self, amplify: u8) -> Image {
@@ -101,9 +104,11 @@ pub fn run(words: &[OsString], out: &mut dyn Write) -> Ended {
 
     let after = [0, 1, 2].map(|component| run.stage.filtered(component));
     let before = vector.deblocked.each_ref().map(Vec::as_slice);
-    let outputs = asked.outputs(&Planes { depth: vector.picture().depth, sizes: run.stage.sizes(), before, after });
+    let picture = vector.picture();
+    let depths = [picture.luma_depth, picture.chroma_depth];
+    let outputs = asked.outputs(&Planes { depths, sizes: run.stage.sizes(), before, after });
     write_all(&outputs, &input, out)?;
-    let line = line(&vector.picture(), changed(&vector.deblocked, after), &outputs);
+    let line = line(&picture, changed(&vector.deblocked, after), &outputs);
     if outputs.iter().any(|output| output.target == Target::StandardOutput) {
         say(&line);
     } else {
@@ -130,7 +135,7 @@ impl<'a> Asked<'a> {
     }
 
     fn outputs(&self, planes: &Planes) -> Vec<Output> {
-        let output = |word: &OsStr| Output { target: Target::typed(word), bytes: yuv(planes.depth, planes.after) };
+        let output = |word: &OsStr| Output { target: Target::typed(word), bytes: yuv(planes.depths, planes.after) };
         let compare = |word: &OsStr| {
             let ending = Path::new(word).extension();
             let kind = if ending.is_some_and(|ending| ending.eq_ignore_ascii_case(PPM.ending)) { PPM } else { PNG };
@@ -171,11 +176,12 @@ fn filtered(vector: &Vector) -> Result<Run<'_>, String> {
     Ok(run)
 }
 
-/// The planes one after another.
-fn yuv(depth: u8, planes: [&[u16]; 3]) -> Vec<u8> {
+/// The planes one after another, as the standard's reference decoder writes them: if either depth is above 8, every plane
+/// has two bytes a sample.
+fn yuv(depths: [u8; 2], planes: [&[u16]; 3]) -> Vec<u8> {
     let samples = planes.into_iter().flatten();
-    match depth {
-        8 => samples.map(|sample| sample.to_le_bytes()[0]).collect(),
+    match depths {
+        [8, 8] => samples.map(|sample| sample.to_le_bytes()[0]).collect(),
         _ => samples.flat_map(|sample| sample.to_le_bytes()).collect(),
     }
 }
@@ -195,8 +201,8 @@ fn image_files(prefix: &OsStr, kind: &Kind, planes: &Planes, amplify: u8) -> [Ou
 
 fn line(picture: &Picture, changed: [usize; 3], outputs: &[Output]) -> String {
     let names: Vec<String> = outputs.iter().map(|output| output.target.to_string()).collect();
-    let Picture { width, height, depth, .. } = picture;
-    let format = format_name(picture);
+    let Picture { width, height, luma_depth, chroma_depth, .. } = *picture;
+    let (format, depth) = (format_name(picture), depth_name([luma_depth, chroma_depth]));
     let component = |of: usize| format!("{} {}", NAMES[of], changed[of]);
     let components: Vec<String> = (0..picture.components() as usize).map(component).collect();
     let (changed, components) = (changed.iter().sum::<usize>(), components.join(", "));

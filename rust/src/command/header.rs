@@ -68,7 +68,7 @@ pub struct Header {
     pub height: usize,
     /// The format in which the planes are coded, ChromaArrayType: planes of 4:4:4 that are coded apart are monochrome.
     pub format: ChromaFormat,
-    /// Luma and chroma.
+    /// Luma and chroma. Where there is no chroma, BitDepthC says nothing, and luma's stands for it.
     pub depths: [u8; 2],
     pub ctb_log2: u32,
     pub min_cb_log2: u32,
@@ -98,11 +98,12 @@ impl Header {
         }
         agree(&numbers)?;
         let two = |place: usize| [numbers[place] as u8, numbers[place + 1] as u8];
+        let format = ChromaFormat::ALL[numbers[24] as usize];
         Ok(Header {
             width: numbers[0] as usize,
             height: numbers[1] as usize,
-            format: ChromaFormat::ALL[numbers[24] as usize],
-            depths: two(3),
+            format,
+            depths: if format == ChromaFormat::Monochrome { [numbers[3] as u8; 2] } else { two(3) },
             ctb_log2: numbers[5] as u32,
             min_cb_log2: numbers[6] as u32,
             columns: numbers[7] as usize,

@@ -34,17 +34,18 @@ impl Image {
         Image::new(width, vec![colour; width * height])
     }
 
-    /// A picture's planes in colour; a monochrome one in grey.
-    pub fn of_planes(depth: u8, sizes: &Sizes, planes: [&[u16]; 3]) -> Image {
+    /// A picture's planes in colour; a monochrome one in grey. The depths are luma's and chroma's.
+    pub fn of_planes(depths: [u8; 2], sizes: &Sizes, planes: [&[u16]; 3]) -> Image {
         let [luma, cb, cr] = planes;
         let ([width, across, _], [height, down, _]) = (sizes.width, sizes.height);
-        let unit = f64::from(1u32 << (depth - 8));
+        // What a step of depth 8 is at the component's own.
+        let [luma_unit, chroma_unit] = depths.map(|depth| f64::from(1u32 << (depth - 8)));
         let chroma = |plane: &[u16], place: usize| {
             let (x, y) = (place % width * across / width, place / width * down / height);
-            plane.get(y * across + x).map_or(0.0, |sample| (f64::from(*sample) / unit - 128.0) / 224.0)
+            plane.get(y * across + x).map_or(0.0, |sample| (f64::from(*sample) / chroma_unit - 128.0) / 224.0)
         };
         let pixel = |(place, sample): (usize, &u16)| {
-            let light = (f64::from(*sample) / unit - 16.0) / 219.0;
+            let light = (f64::from(*sample) / luma_unit - 16.0) / 219.0;
             colour(light, chroma(cb, place), chroma(cr, place))
         };
         Image::new(width, luma.iter().enumerate().map(pixel).collect())
@@ -216,13 +217,26 @@ mod tests {
             let sizes = Sizes { width: [8, across, across], height: [8, down, down], ..Sizes::default() };
             let mut cr = vec![128; across * down];
             cr[across + 1] = 240;
-            let image = Image::of_planes(8, &sizes, [&[128; 64], &vec![128; across * down], &cr]);
+            let image = Image::of_planes([8, 8], &sizes, [&[128; 64], &vec![128; across * down], &cr]);
             let grey = image.pixels[0];
             (0..64).filter(|place| image.pixels[*place] != grey).map(|place| (place % 8, place / 8)).collect::<Vec<_>>()
         };
         assert_eq!(coloured(4, 4), [(2, 2), (3, 2), (2, 3), (3, 3)]);
         assert_eq!(coloured(4, 8), [(2, 1), (3, 1)]);
         assert_eq!(coloured(8, 8), [(1, 1)]);
+    }
+
+    /// The same picture at any two depths: a sample is as many times larger as its component's depth has bits more.
+    #[test]
+    fn each_component_goes_by_its_own_depth() {
+        let sizes = Sizes { width: [8, 4, 4], height: [8, 4, 4], ..Sizes::default() };
+        let at = |luma: u8, chroma: u8| {
+            let (luma_sample, cb, cr) = (63 << (luma - 8), 102 << (chroma - 8), 240 << (chroma - 8));
+            Image::of_planes([luma, chroma], &sizes, [&[luma_sample; 64], &[cb; 16], &[cr; 16]]).pixels
+        };
+        for (luma, chroma) in (8..=16).flat_map(|luma| (8..=16).map(move |chroma| (luma, chroma))) {
+            assert_eq!(at(luma, chroma), at(8, 8), "{luma} {chroma}");
+        }
     }
 
     #[test]

@@ -5,9 +5,9 @@
 use super::run::NAMES;
 use steamgusset::{CtuSet, Offsets, Picture, Refusal};
 
-/// The largest magnitude of an offset as coded, M.
-pub fn largest(depth: u8) -> u8 {
-    (1 << (depth.min(10) - 5)) - 1
+/// The largest magnitude of a component's offsets as coded, M, by the component's own depth.
+pub fn largest(picture: &Picture, component: u32) -> u8 {
+    (1 << (picture.depth(component).min(10) - 5)) - 1
 }
 
 /// The refusal of a set, with the first rule that the set breaks where that is the reason.
@@ -19,11 +19,11 @@ pub fn refused(refusal: Refusal, set: &CtuSet, picture: &Picture) -> String {
 }
 
 fn broken(set: &CtuSet, picture: &Picture) -> Option<String> {
-    let Picture { luma, chroma, depth, .. } = *picture;
-    let mut components = NAMES.into_iter().zip(set.components()).zip([luma, chroma, chroma]);
-    let own = components.find_map(|((name, offsets), switch)| {
-        let rule = if switch { of_component(offsets, largest(depth)) } else { of_switched_off(offsets) };
-        rule.map(|rule| format!("{name} {rule}"))
+    let Picture { luma, chroma, .. } = *picture;
+    let mut components = (0..).zip(set.components()).zip([luma, chroma, chroma]);
+    let own = components.find_map(|((component, offsets), switch)| {
+        let rule = if switch { of_component(offsets, largest(picture, component)) } else { of_switched_off(offsets) };
+        rule.map(|rule| format!("{} {rule}", NAMES[component as usize]))
     });
     own.or_else(|| of_chroma(set.cb, set.cr))
 }

@@ -170,6 +170,11 @@ pub fn format_name(picture: &Picture) -> String {
     }
 }
 
+/// The depth as it is spoken of: one number, or luma's and chroma's where they are two.
+pub fn depth_name([luma, chroma]: [u8; 2]) -> String {
+    if luma == chroma { luma.to_string() } else { format!("{luma}/{chroma}") }
+}
+
 #[cfg(test)]
 mod tests {
     use super::neighbourhood;

@@ -9,7 +9,7 @@ mod segments;
 
 use super::header::{HEADER_BYTES, Header, numbers, outside};
 use super::input::Input;
-use super::run::NAMES;
+use super::run::{NAMES, depth_name};
 use segments::{Segments, Tiles};
 use std::cmp::Ordering;
 use std::fmt;
@@ -107,7 +107,8 @@ impl Vector {
             height: header.height as u32,
             ctb: 1 << header.ctb_log2,
             format: header.format,
-            depth: header.depths[0],
+            luma_depth: header.depths[0],
+            chroma_depth: header.depths[1],
             luma,
             chroma,
         }
@@ -179,10 +180,9 @@ impl Rest {
 
 /// What the picture has, by its header, that the stage does not cover yet, or nothing.
 fn not_covered(header: &Header) -> Option<String> {
-    let Header { width, height, depths: [luma, chroma], .. } = *header;
+    let Header { width, height, .. } = *header;
     let reasons = [
         (width.max(height) > LARGEST_SIDE, format!("its size is {width}x{height}, above {LARGEST_SIDE}")),
-        (header.planes() == 3 && luma != chroma, format!("it has two depths, luma {luma} and chroma {chroma}")),
         (other_scale(header), scales(header)),
         (header.tiles != [1, 1], "it has several tiles".into()),
         (header.skip & 2 != 0, "it has lossless units, which keep their samples".into()),
@@ -194,16 +194,25 @@ fn not_covered(header: &Header) -> Option<String> {
     reasons.into_iter().find_map(|(holds, why)| holds.then_some(why))
 }
 
-/// Whether a scale is sent that is not the 2013 rule's, which is the stage's. In monochrome no chroma offset is sent.
+/// The stage's scales of luma and chroma: the 2013 rule's, by the component's own depth.
+fn stage_scales(header: &Header) -> [u8; 2] {
+    header.depths.map(|depth| depth.saturating_sub(10))
+}
+
+/// Whether a scale is sent that is not the stage's. In monochrome no chroma offset is sent.
 fn other_scale(header: &Header) -> bool {
-    let mut components = header.scales.iter().zip(header.depths).take(header.planes());
-    components.any(|(scale, depth)| *scale != depth.saturating_sub(10))
+    let mut components = header.scales.iter().zip(stage_scales(header)).take(header.planes());
+    components.any(|(sent, stage)| *sent != stage)
 }
 
 fn scales(header: &Header) -> String {
-    let ([luma, chroma], depth) = (header.scales, header.depths[0]);
+    let [luma, chroma] = header.scales;
     let chroma = if header.planes() == 3 { format!(" and {chroma} for chroma") } else { String::new() };
-    let stage = depth.saturating_sub(10);
+    let stage = match stage_scales(header) {
+        [luma, chroma] if luma == chroma => luma.to_string(),
+        [luma, chroma] => format!("{luma} and {chroma}"),
+    };
+    let depth = depth_name(header.depths);
     format!("its offsets are sent with scale {luma} for luma{chroma}; at depth {depth} the stage has {stage}")
 }
 

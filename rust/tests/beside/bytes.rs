@@ -14,23 +14,31 @@ use second::{ComponentSet, CtuSet, Picture, State, World};
 use steamgusset::ffi;
 
 /// Four CTUs: the last has a left and an upper neighbour.
-const PICTURE: Picture = Picture { width: 24, height: 24, ctb: 16, format: 1, depth: 8, luma: true, chroma: true };
+const PICTURE: Picture =
+    Picture { width: 24, height: 24, ctb: 16, format: 1, luma_depth: 8, chroma_depth: 8, luma: true, chroma: true };
 const LEFT: usize = 2;
 const ABOVE: usize = 1;
 const OWN: usize = 3;
 
-/// One depth for each M, the largest among them.
-const DEPTHS: [u8; 3] = [8, 9, 16];
+/// Luma's depth and chroma's: one for each M, the largest among them, beside one of another M.
+const DEPTHS: [(u8, u8); 3] = [(8, 9), (9, 16), (16, 8)];
+
+/// One depth alone may be no other than it is, since there is no chroma.
+const MONOCHROME: Picture = Picture { format: 0, luma_depth: 12, chroma_depth: 12, chroma: false, ..PICTURE };
 
 /// A little more than the largest number of a description.
 const MOST: u32 = 8300;
 
+fn with_depths((luma_depth, chroma_depth): (u8, u8)) -> Picture {
+    Picture { luma_depth, chroma_depth, ..PICTURE }
+}
+
 /// Off, band and edge in all three components, and the largest offsets there are.
 fn sets(picture: &Picture) -> [CtuSet; 3] {
-    let most = picture.largest_magnitude() as i8;
-    let band = ComponentSet::Band { position: 31, offsets: [most, -most, 0, 1] };
-    let edge = ComponentSet::Edge { class: 3, offsets: [most, 0, -most, 0] };
-    [ComponentSet::Off, band, edge].map(|component| CtuSet::of([component; 3]))
+    let most = [0, 1, 2].map(|component| picture.largest_magnitude(component) as i8);
+    let band = |most: i8| ComponentSet::Band { position: 31, offsets: [most, -most, 0, 1] };
+    let edge = |most: i8| ComponentSet::Edge { class: 3, offsets: [most, 0, -most, 0] };
+    [CtuSet::OFF, CtuSet::of(most.map(band)), CtuSet::of(most.map(edge))]
 }
 
 /// The same set for every CTU, every block delivered.
@@ -42,14 +50,14 @@ fn delivered(picture: &Picture, set: &CtuSet) -> World {
 }
 
 /// How many bytes at one place of one of the three sets leave it within the rules, summed over the 18 places.
-fn within_the_rules(depth: u8) -> u64 {
-    let most = u64::from(Picture { depth, ..PICTURE }.largest_magnitude());
+fn within_the_rules(depths: (u8, u8)) -> u64 {
+    let most = [0, 1, 2].map(|component| u64::from(with_depths(depths).largest_magnitude(component)));
     let off = 18;
     // Type 1 alone, since no edge has class 31; 32 positions; offsets from -M to M.
-    let band = 1 + 32 + 4 * (2 * most + 1);
+    let band = most.map(|most| 1 + 32 + 4 * (2 * most + 1));
     // Luma may be a band of position 3 as well, and has four classes; Cb and Cr keep to each other's type and class.
-    let (luma, chroma) = (2 + 4 + 4 * (most + 1), 1 + 1 + 4 * (most + 1));
-    off + 3 * band + luma + 2 * chroma
+    let edge = [2 + 4, 1 + 1, 1 + 1].iter().zip(most).map(|(others, most)| others + 4 * (most + 1));
+    off + band.iter().sum::<u64>() + edge.sum::<u64>()
 }
 
 /// How often each call is accepted: read, write, deliver, filter, finished rows.
@@ -64,24 +72,28 @@ pub fn expected() -> [u64; 5] {
 
 /// How many of the descriptions keep the rules.
 pub fn sound_descriptions() -> u64 {
-    // Widths, heights, CTB sizes; the formats with chroma, since it is on; depths, and two switches.
-    1024 + 1024 + 3 + 3 + 9 + 2 + 2
+    let sizes = 1024 + 1024 + 3;
+    // The formats with chroma, since it is on; two depths, and two switches.
+    let with_chroma = sizes + 3 + 9 + 9 + 2 + 2;
+    // Any format; either depth as it is, and no chroma switch.
+    let monochrome = sizes + 4 + 1 + 1 + 2 + 1;
+    with_chroma + monochrome
 }
 
 /// Makes every call, with every byte in every place.
 pub fn every_byte(watch: Watch) -> Result<Tally, String> {
     let mut tally = Tally::default();
-    for depth in DEPTHS {
-        let picture = Picture { depth, ..PICTURE };
+    for picture in DEPTHS.map(with_depths) {
         for set in sets(&picture) {
-            let mut bench = Bench { draw: Draw::of(Random::new(0), CUT_SHORT, picture), watch, tally: &mut tally };
+            let mut bench = Bench::of(picture, watch, &mut tally);
             bench.sets(&set)?;
             bench.entries(&set)?;
         }
     }
-    let mut bench = Bench { draw: Draw::of(Random::new(0), CUT_SHORT, PICTURE), watch, tally: &mut tally };
-    bench.marks()?;
-    bench.descriptions()?;
+    Bench::of(PICTURE, watch, &mut tally).marks()?;
+    for picture in [PICTURE, MONOCHROME] {
+        Bench::of(picture, watch, &mut tally).descriptions()?;
+    }
     Ok(tally)
 }
 
@@ -97,6 +109,10 @@ struct Bench<'a> {
 }
 
 impl Bench<'_> {
+    fn of(picture: Picture, watch: Watch, tally: &mut Tally) -> Bench<'_> {
+        Bench { draw: Draw::of(Random::new(0), CUT_SHORT, picture), watch, tally }
+    }
+
     /// Makes the call on this world, all of the sets up to `next` being in.
     fn make(&mut self, world: World, next: usize, call: &Call) -> Result<(), String> {
         let memory = Memory::holding(&world, self.draw.random(), self.watch.guards);
@@ -107,12 +123,13 @@ impl Bench<'_> {
     /// A description that differs from the picture's in one number; what keeps the rules is refused for the marks,
     /// which are not lent.
     fn descriptions(&mut self) -> Result<(), String> {
-        let fields: [fn(&mut ffi::State) -> &mut u32; 7] = [
+        let fields: [fn(&mut ffi::State) -> &mut u32; 8] = [
             |state| &mut state.width,
             |state| &mut state.height,
             |state| &mut state.ctb,
             |state| &mut state.format,
-            |state| &mut state.depth,
+            |state| &mut state.luma_depth,
+            |state| &mut state.chroma_depth,
             |state| &mut state.luma,
             |state| &mut state.chroma,
         ];

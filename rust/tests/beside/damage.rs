@@ -6,6 +6,7 @@ use crate::judge::in_byte;
 use crate::spoil::{above, change_byte, wrong_length};
 use Damage::*;
 use second::generate;
+use second::random::Random;
 use second::table::{self, ENTRY_BYTES};
 use second::{Picture, World};
 use steamgusset::ffi::State;
@@ -85,10 +86,13 @@ impl Draw {
         let any = random.number() as u32;
         let byte = random.number() as u32 & 0xFF;
         let switch = random.pick(&[2, 3, 128, 255, high, high | 1, u32::MAX, any.max(2), byte.max(2)]);
-        match random.below(4) {
-            0 => state.format = random.pick(&[256, state.format | high, u32::MAX, any.max(256), byte + 256]),
-            1 => state.depth = random.pick(&[256, state.depth | high, u32::MAX, any.max(256), byte + 256]),
-            2 => state.luma = switch,
+        let choice = random.below(5);
+        let mut above = |number: u32| random.pick(&[256, number | high, u32::MAX, any.max(256), byte + 256]);
+        match choice {
+            0 => state.format = above(state.format),
+            1 => state.luma_depth = above(state.luma_depth),
+            2 => state.chroma_depth = above(state.chroma_depth),
+            3 => state.luma = switch,
             _ => state.chroma = switch,
         }
     }
@@ -100,7 +104,9 @@ impl Draw {
         let (byte, odd) = (random.number() as u32 & 0xFF, random.below(9000) as u32 | 1);
         let side = |side: u32| [0, 4, 7, side + 1, side + 4, 8191, 8196, 8200, 1 << 31, u32::MAX - 7, u32::MAX];
         let is_any = random.once_in(2);
-        match random.below(6) {
+        let depth = if is_any { byte } else { random.pick(&[0, 1, 7, 17, 32, 255]) };
+        // Depths more often: each way in which they alone are wrong is to be met often by each call.
+        match random.below(16) {
             0 if is_any => state.width = random.pick(&[any, odd]),
             0 => state.width = random.pick(&side(state.width & 0xFFFF)),
             1 if is_any => state.height = random.pick(&[any, odd]),
@@ -109,9 +115,15 @@ impl Draw {
             2 => state.ctb = random.pick(&[0, 1, 8, 15, 17, 24, 48, 63, 65, 128, 272, 1 << 31, u32::MAX]),
             3 if is_any => state.format = byte,
             3 => state.format = random.pick(&[4, 5, 128, 255]),
-            4 if is_any => state.depth = byte,
-            4 => state.depth = random.pick(&[0, 1, 7, 17, 32, 255]),
-            _ => (state.format, state.chroma) = (0, 1),
+            4..=6 => state.luma_depth = depth,
+            7..=9 => state.chroma_depth = depth,
+            10 => (state.luma_depth, state.chroma_depth) = (depth, depth),
+            // Monochrome with two depths, or with chroma on, and nothing else wrong.
+            11..=13 => {
+                let other = another_depth(random, state.luma_depth);
+                (state.format, state.chroma, state.chroma_depth) = (0, 0, other);
+            }
+            _ => (state.format, state.chroma, state.chroma_depth) = (0, 1, state.luma_depth),
         }
     }
 
@@ -120,7 +132,8 @@ impl Draw {
         let random = self.random();
         let any = 8 * (1 + random.below(1024) as u32);
         let side = |side: u32| [8, side.saturating_add(8).min(8192), side.saturating_sub(8).max(8), 64, 8192, any];
-        match random.below(8) {
+        let depth = 8 + random.below(9) as u32;
+        match random.below(9) {
             0 => state.width = random.pick(&side(state.width)),
             1 => state.height = random.pick(&side(state.height)),
             2 => (state.width, state.height) = (state.height, state.width),
@@ -128,7 +141,11 @@ impl Draw {
             4 => (state.format, state.chroma) = (random.below(4) as u32, 0),
             5 => state.luma = 1 - state.luma.min(1),
             6 => state.chroma = if state.format == 0 { 0 } else { 1 - state.chroma.min(1) },
-            _ => state.depth = 8 + random.below(9) as u32,
+            7 if state.format > 0 => state.chroma_depth = depth,
+            _ => state.luma_depth = depth,
+        }
+        if state.format == 0 {
+            state.chroma_depth = state.luma_depth;
         }
     }
 
@@ -184,18 +201,17 @@ impl Draw {
     }
 
     fn changed_entry(&mut self, picture: &Picture, entry: &mut [u8]) {
-        let most = picture.largest_magnitude();
         let random = self.random();
         match random.below(12) {
             0 => entry.fill_with(|| random.number() as u8),
             1 => entry.copy_within(6 + 6 * random.below(2).., 0),
             2 => {
-                // A set of a picture with both switches on and any depth: sound, but for another description.
-                let other =
-                    Picture { format: 3, depth: random.pick(&[8, 9, 10]), luma: true, chroma: true, ..*picture };
+                // A set of a picture with both switches on and any depths: sound, but for another description.
+                let [luma_depth, chroma_depth] = [(); 2].map(|()| random.pick(&[8, 9, 10]));
+                let other = Picture { format: 3, luma_depth, chroma_depth, luma: true, chroma: true, ..*picture };
                 entry.copy_from_slice(&table::encode(&generate::set(random, &other)));
             }
-            _ => change_byte(random, entry, most),
+            _ => change_byte(random, entry, picture),
         }
     }
 
@@ -213,9 +229,15 @@ impl Draw {
         };
         let (x, y) = (along(around.left, around.right, width), along(around.top, around.bottom, height));
         let component = if self.random().once_in(8) { self.random().below(3) } else { component };
-        let sample = above(self.random(), picture.largest_sample());
+        let sample = above(self.random(), picture.largest_sample(component));
         set_if_there(&mut planes[component], y * width + x, sample);
     }
+}
+
+/// Any depth within the limits but this one, which an earlier damage may have changed.
+fn another_depth(random: &mut Random, depth: u32) -> u32 {
+    let others: Vec<u32> = (8..=16).filter(|other| *other != depth).collect();
+    random.pick(&others)
 }
 
 /// An earlier damage may have cut the buffer short.

@@ -32,13 +32,19 @@ fn picture(random: &mut Random) -> (usize, Picture) {
         _ => random.pick(&[(8192, 8), (8, 8192)]),
     };
     let format = random.below(4) as u8;
-    // Depths 8 and 9 have an M of their own each.
-    let any = 8 + random.below(9) as u8;
-    let depth = random.pick(&[8, 9, any, any, any, any]);
+    let (luma_depth, chroma_depth) = (depth(random), depth(random));
+    // In monochrome there is one depth.
+    let chroma_depth = if format == 0 { luma_depth } else { chroma_depth };
     // Every kind is to come to its end several times, both switches off among them.
     let luma = !random.once_in(3);
     let chroma = format != 0 && !random.once_in(3);
-    (class, Picture { width, height, ctb, format, depth, luma, chroma })
+    (class, Picture { width, height, ctb, format, luma_depth, chroma_depth, luma, chroma })
+}
+
+/// Any depth; 8 and 9, which have an M of their own each, are drawn more often.
+fn depth(random: &mut Random) -> u8 {
+    let any = 8 + random.below(9) as u8;
+    random.pick(&[8, 9, any, any, any, any])
 }
 
 /// A picture's description, its samples, and the draws on it.

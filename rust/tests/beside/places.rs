@@ -11,8 +11,9 @@ use second::replay::{block_samples, blocks};
 use second::{Picture, State, World, generate, table};
 
 /// Nine CTUs, the last row and column cut short: CTBs with every number of neighbours. In 4:2:2 chroma's are twice as
-/// high as wide.
-const PICTURE: Picture = Picture { width: 40, height: 40, ctb: 16, format: 2, depth: 10, luma: true, chroma: true };
+/// high as wide. What is above chroma's depth is within luma's.
+const PICTURE: Picture =
+    Picture { width: 40, height: 40, ctb: 16, format: 2, luma_depth: 10, chroma_depth: 8, luma: true, chroma: true };
 
 /// How often each call must be refused for such a sample: deliver, filter.
 pub fn expected() -> [u64; 2] {
@@ -56,7 +57,7 @@ fn deliver_each(draw: &mut Draw, component: u8, ctb: u32, watch: Watch, tally: &
     let mut sides = sides(draw, World::lent_for(&PICTURE), watch);
     for place in 0..samples.len() {
         let mut samples = samples.clone();
-        samples[place] = PICTURE.largest_sample() + 1;
+        samples[place] = PICTURE.largest_sample(component.into()) + 1;
         let call = Call::Deliver { component: component.into(), ctb, samples };
         made(draw, &mut sides, &call, watch, tally)?;
     }
@@ -74,7 +75,7 @@ fn filter_each(
     let call = Call::Filter { component: component.into(), ctb };
     for place in 0..PICTURE.plane_samples(component.into()) {
         let mut world = delivered.clone();
-        world.deblocked[usize::from(component)][place] = PICTURE.largest_sample() + 1;
+        world.deblocked[usize::from(component)][place] = PICTURE.largest_sample(component.into()) + 1;
         let mut sides = sides(draw, world, watch);
         made(draw, &mut sides, &call, watch, tally)?;
     }

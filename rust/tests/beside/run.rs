@@ -4,7 +4,7 @@ use crate::archive;
 use crate::call::Call;
 use crate::damage::{DAMAGES, Damage};
 use crate::draw::Draw;
-use crate::judge::{crossing, judged};
+use crate::judge::{crossing, held, judged};
 use crate::lent::{Fence, Memory};
 use crate::tally::Tally;
 use second::random::Random;
@@ -171,5 +171,8 @@ pub fn made(draw: &mut Draw, sides: &mut Sides, call: &Call, watch: Watch, tally
     difference.map(told).map_or(Ok(()), Err)?;
     *state = returned.state;
     tally.answered(call, expected.reason);
+    if let Some(held) = held(state) {
+        tally.described(call, &held.picture);
+    }
     Ok(expected.reason)
 }

@@ -2,6 +2,7 @@
 
 use crate::call::Call;
 use crate::draw::Draw;
+use second::Picture;
 use second::random::Random;
 use second::table::{ENTRY_BYTES, SET_BYTES};
 
@@ -15,7 +16,7 @@ impl Draw {
             Call::Deliver { component, ctb, samples } => match self.random().below(3) {
                 0 => Call::Deliver { component: self.wrong_component(component), ctb, samples },
                 1 => Call::Deliver { component, ctb: self.wrong_ctb(ctb), samples },
-                _ => Call::Deliver { component, ctb, samples: self.spoiled_samples(samples) },
+                _ => Call::Deliver { component, ctb, samples: self.spoiled_samples(component, samples) },
             },
             Call::Filter { component, ctb } if self.random().once_in(2) => {
                 Call::Filter { component, ctb: self.wrong_ctb(ctb) }
@@ -53,10 +54,10 @@ impl Draw {
 
     /// Bytes that encode no set or one outside the rules; room that is short by one byte or by much, or is very long.
     fn spoiled_set(&mut self, mut set: [u8; SET_BYTES], mut out: Vec<u8>) -> Call {
-        let most = self.picture().largest_magnitude();
+        let picture = self.picture();
         let random = self.random();
         match random.below(16) {
-            0..=10 => change_byte(random, &mut set, most),
+            0..=10 => change_byte(random, &mut set, &picture),
             11 => set = std::array::from_fn(|_| random.number() as u8),
             12 | 13 => {
                 out.pop();
@@ -67,9 +68,9 @@ impl Draw {
         Call::Write { set, out }
     }
 
-    /// Lengths by one and by much, samples above the depth.
-    fn spoiled_samples(&mut self, mut samples: Vec<u16>) -> Vec<u16> {
-        let largest = self.picture().largest_sample();
+    /// Lengths by one and by much, samples above the component's depth.
+    fn spoiled_samples(&mut self, component: u32, mut samples: Vec<u16>) -> Vec<u16> {
+        let largest = self.picture().largest_sample(component as usize);
         let random = self.random();
         // At depth 16 no sample is too large.
         if largest == u16::MAX || random.once_in(2) {
@@ -143,12 +144,12 @@ fn flip_any_bit(random: &mut Random, bins: &mut [u8]) {
 
 /// One byte of a set changed: type, position or class, or offset, mostly of a component that is on, if one is. Cr takes
 /// type and class of Cb, so sometimes both are changed alike.
-pub fn change_byte(random: &mut Random, bytes: &mut [u8], most: u8) {
+pub fn change_byte(random: &mut Random, bytes: &mut [u8], picture: &Picture) {
     let on: Vec<usize> = (0..3).filter(|component| bytes[6 * component] != 0).collect();
     let component = if on.is_empty() || random.once_in(8) { random.below(3) } else { random.pick(&on) };
     let offset = 2 + random.below(4);
     let place = random.pick(&[0, 1, offset]);
-    let byte = set_byte(random, most);
+    let byte = set_byte(random, picture.largest_magnitude(component));
     bytes[6 * component + place] = byte;
     if component > 0 && random.once_in(2) {
         bytes[6 * (3 - component) + place] = byte;

@@ -6,6 +6,7 @@ use crate::draw::CLASSES;
 use second::Picture;
 use std::collections::{BTreeMap, BTreeSet};
 use std::fmt;
+use std::ops::RangeInclusive;
 
 /// The most reasons that a call has, and its acceptance.
 const MOST_ANSWERS: usize = 11;
@@ -13,17 +14,33 @@ const MOST_ANSWERS: usize = 11;
 /// The formats, by their numbers.
 const FORMATS: [&str; 4] = ["monochrome", "4:2:0", "4:2:2", "4:4:4"];
 
-/// What a picture may be besides its size: CTB size, format, depth, the two switches.
+/// What a picture may be besides its size: CTB size, format, luma's depth, the two switches.
 type Make = (u32, u8, u8, bool, bool);
 
 /// Three CTB sizes, nine depths, two switches in each format with chroma and one in monochrome.
 const MAKES: usize = 3 * 9 * (3 * 4 + 2);
+
+/// The depths, of which each of luma and chroma may have any.
+const DEPTHS: RangeInclusive<u8> = 8..=16;
+
+/// How depths alone break a rule, each with nothing else wrong in the description.
+const DEPTHS_WRONG: [&str; 3] = ["luma's outside", "chroma's outside", "two in monochrome"];
+
+/// Which of them is wrong with a description, if it is one alone.
+fn depths_wrong(picture: &Picture) -> Option<usize> {
+    let [luma, chroma] = picture.depths().map(|depth| DEPTHS.contains(&depth));
+    let alone = picture.breaks_a_rule() && !picture.at_depths([8, 8]).breaks_a_rule();
+    let wrong = [!luma && chroma, luma && !chroma, luma && chroma];
+    wrong.iter().position(|wrong| *wrong).filter(|_| alone)
+}
 
 #[derive(Clone, Debug, Default)]
 pub struct Tally {
     pub calls: u64,
     /// By call, then by reason; at 0 the accepted ones.
     answers: [[u64; MOST_ANSWERS]; CALLS.len()],
+    /// By call: how often it was refused for depths alone, by what was wrong with them.
+    depths_wrong: [[u64; DEPTHS_WRONG.len()]; CALLS.len()],
     /// Reads of more bins than 16 bits count, all of them within the bytes.
     pub long: u64,
     /// By kind: how often done, and how often the call made then was refused.
@@ -32,6 +49,8 @@ pub struct Tally {
     ended: [u64; CLASSES.len()],
     formats: [u64; FORMATS.len()],
     makes: BTreeSet<Make>,
+    /// Of those in which luma and chroma were filtered, how many there are of each pair of depths, luma's first.
+    depths: BTreeMap<(u8, u8), u64>,
 }
 
 impl Tally {
@@ -42,6 +61,13 @@ impl Tally {
         self.long += u64::from(matches!(call, Call::Read { bins, count } if is_long(bins, *count)));
     }
 
+    /// A call on this description, which is refused 1 if it breaks a rule.
+    pub fn described(&mut self, call: &Call, picture: &Picture) {
+        if let Some(wrong) = depths_wrong(picture) {
+            self.depths_wrong[call.place()][wrong] += 1;
+        }
+    }
+
     pub fn damaged(&mut self, kind: Damage, refused: bool) {
         let [done, refusals] = &mut self.damages[kind as usize];
         *done += 1;
@@ -49,20 +75,25 @@ impl Tally {
     }
 
     pub fn ended(&mut self, class: usize, picture: &Picture) {
-        let Picture { ctb, format, depth, luma, chroma, .. } = *picture;
+        let Picture { ctb, format, luma_depth, chroma_depth, luma, chroma, .. } = *picture;
         self.ended[class] += 1;
         self.formats[usize::from(format)] += 1;
-        self.makes.insert((ctb, format, depth, luma, chroma));
+        self.makes.insert((ctb, format, luma_depth, luma, chroma));
+        if luma && chroma {
+            *self.depths.entry((luma_depth, chroma_depth)).or_default() += 1;
+        }
     }
 
     pub fn add(&mut self, other: &Tally) {
         self.calls += other.calls;
         self.long += other.long;
         add_each(self.answers.as_flattened_mut(), other.answers.as_flattened());
+        add_each(self.depths_wrong.as_flattened_mut(), other.depths_wrong.as_flattened());
         add_each(self.damages.as_flattened_mut(), other.damages.as_flattened());
         add_each(&mut self.ended, &other.ended);
         add_each(&mut self.formats, &other.formats);
         self.makes.extend(&other.makes);
+        other.depths.iter().for_each(|(pair, pictures)| *self.depths.entry(*pair).or_default() += pictures);
     }
 
     /// A call's answers by number.
@@ -81,6 +112,11 @@ impl Tally {
         all.map(|(call, reason)| (CALLS[call].0, reason, self.answers[call][reason])).min_by_key(|answer| answer.2)
     }
 
+    /// How often the call and the fault of depths that met least often did.
+    pub fn rarest_wrong_depths(&self) -> Option<u64> {
+        self.depths_wrong.as_flattened().iter().copied().min()
+    }
+
     /// How often the call of this place in [`CALLS`] was refused for the last of its reasons.
     pub fn for_last_reason(&self, call: usize) -> u64 {
         self.answers[call][CALLS[call].1.len()]
@@ -91,9 +127,16 @@ impl Tally {
         self.answers[call][0]
     }
 
-    /// Whether pictures of every class, CTB size, format, depth and switches came to their end.
+    /// Whether pictures of every class, CTB size, format, luma's depth and switches came to their end.
     pub fn every_picture(&self) -> bool {
         self.ended.iter().all(|&pictures| pictures > 0) && self.makes.len() == MAKES
+    }
+
+    /// The rarest pair of depths, luma's and chroma's, with which a picture came to its end, and how often.
+    pub fn rarest_depths(&self) -> Option<((u8, u8), u64)> {
+        let pairs = DEPTHS.flat_map(|luma| DEPTHS.map(move |chroma| (luma, chroma)));
+        let counted = |pair: (u8, u8)| (pair, self.depths.get(&pair).copied().unwrap_or(0));
+        pairs.map(counted).min_by_key(|(_, pictures)| *pictures)
     }
 
     /// Whether each format has a quarter of the pictures, give or take a tenth of it.
@@ -146,11 +189,15 @@ impl fmt::Display for Tally {
         write!(out, "{}", lines(|call| self.by_number(call)))?;
         writeln!(out, "refusals by reason, in the order in which they are asked:")?;
         write!(out, "{}", lines(|call| self.by_reason(call)))?;
+        writeln!(out, "refused for depths alone:")?;
+        write!(out, "{}", lines(|call| each(&DEPTHS_WRONG, &self.depths_wrong[call])))?;
         writeln!(out, "reads of more than 65,536 bins within the bytes: {}", self.long)?;
         writeln!(out, "damages of copies, and how many of the calls made on them were refused:")?;
         write!(out, "{}", self.by_damage())?;
         write!(out, "pictures that came to their end: {}; ", each(&CLASSES, &self.ended))?;
         write!(out, "{}; ", each(&FORMATS, &self.formats))?;
-        writeln!(out, "{} of {MAKES} kinds of CTB size, format, depth and switches", self.makes.len())
+        write!(out, "{} of {MAKES} kinds of CTB size, format, luma's depth and switches; ", self.makes.len())?;
+        let (pairs, rarest) = (DEPTHS.count().pow(2), self.rarest_depths().map_or(0, |(_, pictures)| pictures));
+        writeln!(out, "{} of {pairs} pairs of depths, each {rarest} times or more", self.depths.len())
     }
 }

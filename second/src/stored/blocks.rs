@@ -229,12 +229,9 @@ fn record(
     Record { width, height, depth, block, set, bars, manner, source: any_source(random, width), shown }
 }
 
-fn of_depth(depth: u8) -> Picture {
-    Picture { width: 8, height: 8, ctb: 16, format: 0, depth, luma: true, chroma: false }
-}
-
+/// A block has one component: what holds of luma's depth holds of its own.
 fn largest_magnitude(depth: u8) -> u8 {
-    of_depth(depth).largest_magnitude()
+    Picture { luma_depth: depth, ..Picture::MONOCHROME }.largest_magnitude(0)
 }
 
 /// Some CTB of some picture, whose luma is at most so wide and high.
@@ -242,7 +239,7 @@ fn some_ctb(random: &mut Random, wide: usize, high: usize) -> Placed {
     let mut side = |most: usize| 8 * (1 + random.below(most / 8) as u32);
     let (width, height) = (side(wide), side(high));
     let (ctb, format) = (random.pick(&[16, 16, 32, 64]), random.pick(&[0, 1, 2, 3]));
-    let picture = Picture { width, height, ctb, format, chroma: format != 0, ..of_depth(8) };
+    let picture = Picture { width, height, ctb, format, chroma: format != 0, ..Picture::MONOCHROME };
     let component = random.below(picture.components());
     Placed {
         width: picture.plane_width(component),

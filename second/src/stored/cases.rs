@@ -1,7 +1,8 @@
 //! Sets read from bins and written to bins, one CTU to a record.
 //!
 //! Method: a set is drawn and said in bins; the record writes it, reads it, or reads a damaged copy: another count,
-//! other bits, another entry. Depths, formats, switches and neighbours are gone through in all combinations.
+//! other bits, another entry. Depths, formats, switches and neighbours are gone through in all combinations, and so are
+//! pairs of depths of every M with switches and neighbours.
 
 use crate::bins::{self, Form, Reading};
 use crate::generate;
@@ -38,7 +39,7 @@ pub enum Call {
 impl Record {
     /// Its bytes, as crates/cases describes them.
     pub fn bytes(&self) -> Vec<u8> {
-        let Picture { width, height, ctb, format, depth, luma, chroma } = self.picture;
+        let Picture { width, height, ctb, format, luma_depth, chroma_depth, luma, chroma } = self.picture;
         let (set, count, lent) = match &self.call {
             Call::Read { bins, count } => ([NOTHING; ENTRY_BYTES], *count, bins),
             Call::Write { set, room } => (*set, 0, room),
@@ -51,7 +52,7 @@ impl Record {
             bytes.extend(entry.unwrap_or([NOTHING; ENTRY_BYTES]));
         }
         bytes.extend(flags.map(u8::from));
-        bytes.extend([format, depth, luma.into(), chroma.into(), 0]);
+        bytes.extend([format, luma_depth, chroma_depth, luma.into(), chroma.into()]);
         bytes.extend([width, height, ctb, count as u32].map(pair).concat());
         bytes.extend([lent.len() as u8, 0]);
         bytes.extend(lent);
@@ -120,17 +121,17 @@ fn hex(bytes: &[u8]) -> String {
 
 pub fn records() -> Vec<Record> {
     let mut random = Random::new(1);
-    let mut records = document();
-    records.extend(combinations(&mut random));
-    records.extend((8..=16).flat_map(longest));
-    let damaged: Vec<Record> = (0..120).map(|n| with_a_damaged_entry(&mut random, &records[n * 17 + 20])).collect();
-    records.extend(damaged);
-    records.extend(wrong_descriptions());
-    records
+    let combined = combinations(&mut random);
+    let damaged = (0..120).map(|n| with_a_damaged_entry(&mut random, &combined[23 * n])).collect();
+    let longest = Picture::pairs_of_depths().flat_map(longest).collect();
+    let too_large = paired().flat_map(one_too_large).collect();
+    [document(), misread_with_one_depth(), combined, longest, too_large, damaged, wrong_descriptions()].concat()
 }
 
-/// Document 01's cases: monochrome, depth 8, luma on.
-const MONOCHROME: Picture = Picture { width: 8, height: 8, ctb: 16, format: 0, depth: 8, luma: true, chroma: false };
+const MONOCHROME: Picture = Picture::MONOCHROME;
+
+/// 4:2:0 with both switches on.
+const COLOUR: Picture = Picture { format: 1, chroma: true, ..MONOCHROME };
 
 fn read(left: Option<CtuSet>, up: Option<CtuSet>, bins: &[u8], count: usize) -> Record {
     let entry = |set: Option<CtuSet>| set.map(|set| table::encode(&set));
@@ -178,6 +179,19 @@ fn document() -> Vec<Record> {
     ]
 }
 
+/// Luma at depth 10 and chroma at depth 8, so that M is 31 and 7: written, read, and read as if there were one depth.
+fn misread_with_one_depth() -> Vec<Record> {
+    let band = |position, offsets| ComponentSet::Band { position, offsets };
+    let set = CtuSet::of([band(3, [8, 0, 0, 0]), band(1, [7, 0, 0, -1]), band(31, [0, 0, 0, -7])]);
+    let picture = COLOUR.at_depths([10, 8]);
+    let bins = said(&picture, None, None, &set);
+    let call = Call::Read { bins: bins::pack(&bins), count: bins.len() };
+    let alone = |picture, call| Record { picture, left: None, up: None, call };
+    let mut records = vec![alone(picture, Call::Write { set: table::encode(&set), room: vec![0xFF; 8] })];
+    records.extend([[10, 8], [10, 10], [8, 8]].map(|depths| alone(COLOUR.at_depths(depths), call.clone())));
+    records
+}
+
 /// The formats and pairs of switches.
 const SWITCHES: [(u8, bool, bool); 14] = [
     (0, false, false),
@@ -196,18 +210,32 @@ const SWITCHES: [(u8, bool, bool); 14] = [
     (3, true, true),
 ];
 
-/// Every depth with every format and pair of switches, and with every kind of neighbours.
+/// Two different depths for luma and chroma: of each M, and of one M two.
+fn paired() -> impl Iterator<Item = [u8; 2]> {
+    let depths = [8, 9, 10, 16];
+    depths.into_iter().flat_map(move |luma| depths.map(|chroma| [luma, chroma])).filter(|[luma, chroma]| luma != chroma)
+}
+
+/// Every depth with every format and pair of switches; and two different depths with every pair of switches, one format
+/// after the other.
+fn kinds() -> Vec<Picture> {
+    let of = |depths, (format, luma, chroma)| Picture { format, luma, chroma, ..MONOCHROME }.at_depths(depths);
+    let equal = (8..=16).flat_map(|depth| SWITCHES.map(|switches| of([depth; 2], switches)));
+    let paired = paired().zip([1, 2, 3].into_iter().cycle()).flat_map(|(depths, format)| {
+        SWITCHES.into_iter().filter(move |switches| switches.0 == format).map(move |switches| of(depths, switches))
+    });
+    equal.chain(paired).collect()
+}
+
+/// All of these with every kind of neighbours, in pictures of any size.
 fn combinations(random: &mut Random) -> Vec<Record> {
     let mut records = Vec::new();
-    for depth in 8..=16 {
-        for (format, luma, chroma) in SWITCHES {
-            for (has_left, has_up) in [(false, false), (true, false), (false, true), (true, true)] {
-                let mut side = || 8 * (1 + random.below(1024) as u32);
-                let (width, height) = (side(), side());
-                let ctb = random.pick(&[16, 32, 64]);
-                let picture = Picture { width, height, ctb, format, depth, luma, chroma };
-                records.extend(written_and_read(random, picture, has_left, has_up));
-            }
+    for kind in kinds() {
+        for (has_left, has_up) in [(false, false), (true, false), (false, true), (true, true)] {
+            let mut side = || 8 * (1 + random.below(1024) as u32);
+            let (width, height) = (side(), side());
+            let picture = Picture { width, height, ctb: random.pick(&[16, 32, 64]), ..kind };
+            records.extend(written_and_read(random, picture, has_left, has_up));
         }
     }
     records
@@ -277,17 +305,33 @@ fn with_other_bits(random: &mut Random, bins: &str) -> Call {
     Call::Read { bins: bytes, count }
 }
 
-/// The longest CTU of a depth: written where it just fits and where it does not, and read.
-fn longest(depth: u8) -> [Record; 3] {
-    let picture = Picture { format: 1, depth, chroma: true, ..MONOCHROME };
-    let most = picture.largest_magnitude() as i8;
-    let set = CtuSet::of([ComponentSet::Band { position: 31, offsets: [-most; 4] }; 3]);
+/// The longest CTU of two depths: written where it just fits and where it does not, and read.
+fn longest(depths: [u8; 2]) -> [Record; 3] {
+    let picture = COLOUR.at_depths(depths);
+    let most = |component| picture.largest_magnitude(component) as i8;
+    let set = CtuSet::of([0, 1, 2].map(|of| ComponentSet::Band { position: 31, offsets: [-most(of); 4] }));
     let bins = said(&picture, Some(CtuSet::OFF), Some(CtuSet::OFF), &set);
     let bytes = bins::pack(&bins);
     let room = |number| Call::Write { set: table::encode(&set), room: vec![0xFF; number] };
     let calls = [room(bytes.len()), room(bytes.len() - 1), Call::Read { bins: bytes, count: bins.len() }];
     let off = Some(table::encode(&CtuSet::OFF));
     calls.map(|call| Record { picture, left: off, up: off, call })
+}
+
+/// Entries with one offset above M of its own component, though not always of the other depth: to be written, and to be
+/// merged with.
+fn one_too_large(depths: [u8; 2]) -> Vec<Record> {
+    let picture = COLOUR.at_depths(depths);
+    let edge = |offset| ComponentSet::Edge { class: 1, offsets: [offset, 0, 0, 0] };
+    let too_large = |component| {
+        let mut components = [edge(0); 3];
+        components[component] = edge(picture.largest_magnitude(component) as i8 + 1);
+        table::encode(&CtuSet::of(components))
+    };
+    let written = |set| Record { picture, left: None, up: None, call: Call::Write { set, room: vec![0xFF; BODY] } };
+    let merge = Call::Read { bins: vec![0x80], count: 1 };
+    let merged = |set| Record { picture, left: Some(set), up: None, call: merge.clone() };
+    [0, 1, 2].map(too_large).into_iter().flat_map(|set| [written(set), merged(set)]).collect()
 }
 
 /// A record with one byte of an entry changed by little: most entries are then unsound.
@@ -313,9 +357,17 @@ fn wrong_descriptions() -> Vec<Record> {
         Picture { ctb: 8, ..MONOCHROME },
         Picture { ctb: 48, ..MONOCHROME },
         Picture { format: 4, ..MONOCHROME },
-        Picture { depth: 7, ..MONOCHROME },
-        Picture { depth: 17, ..MONOCHROME },
         Picture { chroma: true, ..MONOCHROME },
+        MONOCHROME.at_depths([7, 7]),
+        MONOCHROME.at_depths([17, 17]),
+        // Both within 8 to 16, but not equal.
+        MONOCHROME.at_depths([10, 8]),
+        MONOCHROME.at_depths([8, 9]),
+        MONOCHROME.at_depths([9, 16]),
+        COLOUR.at_depths([7, 8]),
+        COLOUR.at_depths([17, 16]),
+        COLOUR.at_depths([8, 7]),
+        COLOUR.at_depths([16, 17]),
     ];
     let call = Call::Read { bins: vec![0], count: 1 };
     wrong.map(|picture| Record { picture, left: None, up: None, call: call.clone() }).to_vec()

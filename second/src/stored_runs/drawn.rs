@@ -5,6 +5,7 @@
 //! A damage is laid out in commands before its call, and taken back after it, so that most runs come to their end.
 
 use super::{Command, Machine, PLANE, Samples, xorshift};
+use crate::generate;
 use crate::picture::{Picture, State};
 use crate::random::Random;
 use crate::reasons::{self, Seen};
@@ -15,14 +16,21 @@ use crate::table::ENTRY_BYTES;
 use crate::world::{Call, Kind, World};
 use std::collections::BTreeMap;
 
-/// How many runs on small pictures are stored.
-const SMALL: usize = 110;
-
 /// The depths of the larger pictures: the least, with M at its largest, with offsets scaled, and the largest.
 pub const DEPTHS: [u8; 4] = [8, 10, 12, 16];
 
+/// The CTB size and format of the larger pictures, with luma's and chroma's depths: luma goes through all four, and chroma
+/// through the same, begun at another. In monochrome they are equal; with chroma each two of them come together.
+pub fn kinds() -> impl Iterator<Item = (u32, u8, [u8; 2])> {
+    let formats = [0, 1, 2].into_iter().flat_map(|size| [0, 1, 2, 3].map(|format| (size, format)));
+    formats.flat_map(|(size, format)| {
+        let turn = if format == 0 { 0 } else { size + format };
+        std::array::from_fn::<_, 4, _>(|n| (16 << size, format as u8, [DEPTHS[n], DEPTHS[(n + turn) % 4]]))
+    })
+}
+
 /// A run of so many calls is cut short: on a small picture, on a larger one, and on one of 64 CTUs.
-const MOST_CALLS: [usize; 3] = [110, 220, 900];
+const MOST_CALLS: [usize; 3] = [130, 220, 900];
 
 /// A damage of more places is laid out in part.
 const MOST_POKES: usize = 24;
@@ -37,26 +45,38 @@ pub fn commands() -> Vec<Command> {
     commands
 }
 
-/// Pictures of a few CTBs and any depth, of which most runs come to their end.
+/// Pictures of a few CTBs, of which most runs come to their end: of every format and luma depth three, and with chroma one
+/// of every pair of depths, since the three formats begin chroma's at nine different ones.
 fn small() -> impl Iterator<Item = Script> {
-    let fits = |picture: &Picture| picture.width * picture.height <= 40 * 24 && picture.ctus() <= 6;
-    let scripts = (0..).filter_map(|seed| Script::new(seed, 40).ok());
-    scripts.filter(move |script| fits(&script.picture)).take(SMALL)
+    let kinds = (0..3).flat_map(|round| (0..4).flat_map(move |format| (0..9).map(move |luma| (round, format, luma))));
+    kinds.enumerate().filter_map(|(number, (round, format, luma))| {
+        let mut random = Random::new(number as u64);
+        let turn = if format == 0 { 0 } else { 3 * round + format };
+        let picture = few_ctbs(&mut random, format).at_depths([8 + luma, 8 + (luma + turn) % 9]);
+        Script::of(random, picture).ok()
+    })
+}
+
+fn few_ctbs(random: &mut Random, format: u8) -> Picture {
+    loop {
+        let picture = generate::picture(random, 40);
+        if picture.format == format && picture.width * picture.height <= 40 * 24 && picture.ctus() <= 6 {
+            return picture;
+        }
+    }
 }
 
 /// Pictures of every CTB size and format, in two rows of two or three CTUs, the last of them cut short.
 fn larger() -> impl Iterator<Item = Script> {
-    let formats = [16, 32, 64].into_iter().flat_map(|ctb| [0, 1, 2, 3].map(|format| (ctb, format)));
-    let kinds = formats.flat_map(|(ctb, format)| DEPTHS.map(|depth| (ctb, format, depth)));
-    kinds.enumerate().filter_map(|(number, (ctb, format, depth))| {
+    kinds().enumerate().filter_map(|(number, (ctb, format, depths))| {
         let mut random = Random::new(1000 + number as u64);
-        let picture = cut_short(&mut random, ctb, format, depth);
+        let picture = cut_short(&mut random, ctb, format).at_depths(depths);
         Script::of(random, picture).ok()
     })
 }
 
 /// A picture whose last column and row are cut short, of fewer samples than a plane holds, so that a length can be too large.
-fn cut_short(random: &mut Random, ctb: u32, format: u8, depth: u8) -> Picture {
+fn cut_short(random: &mut Random, ctb: u32, format: u8) -> Picture {
     loop {
         let mut side = |whole: u32| whole * ctb + 8 * (1 + random.below(ctb as usize / 8 - 1) as u32);
         let (width, height) = (side(1), side(1));
@@ -64,14 +84,14 @@ fn cut_short(random: &mut Random, ctb: u32, format: u8, depth: u8) -> Picture {
         if ((width * height) as usize) < PLANE {
             let switches = random.pick(&[(true, true), (true, true), (true, false), (false, true)]);
             let (luma, chroma) = if format == 0 { (true, false) } else { switches };
-            return Picture { width, height, ctb, format, depth, luma, chroma };
+            return Picture { width, height, ctb, format, luma, chroma, ..Picture::MONOCHROME };
         }
     }
 }
 
 /// A picture of 64 CTUs.
 fn many_ctus() -> impl Iterator<Item = Script> {
-    let picture = Picture { width: 128, height: 128, ctb: 16, format: 0, depth: 8, luma: true, chroma: false };
+    let picture = Picture { width: 128, height: 128, ..Picture::MONOCHROME };
     Script::of(Random::new(64), picture).into_iter()
 }
 
@@ -88,7 +108,7 @@ fn lengths(lent: &World) -> [usize; 8] {
 
 /// Document 01's case 10: two CTBs in a row, filter of the first before and after the second is delivered.
 fn case_10() -> Vec<Command> {
-    let picture = Picture { width: 32, height: 16, ctb: 16, format: 0, depth: 8, luma: true, chroma: false };
+    let picture = Picture { width: 32, height: 16, ..Picture::MONOCHROME };
     let flat = Samples { number: 256, base: 9, spread: 0, seed: 1, put_in: vec![] };
     let deliver = |ctb| Command::Deliver { component: 0, ctb, samples: flat.clone() };
     let filter = |ctb| Command::Filter { component: 0, ctb };
@@ -291,10 +311,11 @@ impl Run {
                 Command::Write { set: with_another_offset(random, set), room, byte }
             }
             Command::Deliver { component, ctb, mut samples } => {
-                if samples.number > 0 && picture.depth < 16 {
+                let of = usize::from(component);
+                if samples.number > 0 && picture.depth(of) < 16 {
                     let any = random.below(samples.number);
                     let place = random.pick(&[0, samples.number - 1, any]);
-                    samples.put_in.push((place as u16, picture.largest_sample() + 1));
+                    samples.put_in.push((place as u16, picture.largest_sample(of) + 1));
                 }
                 Command::Deliver { component, ctb, samples }
             }
@@ -343,9 +364,10 @@ impl Run {
         // Open reads nothing but the description.
         let damage = if kind == Kind::Open { 0 } else { random.below(5) };
         match damage {
-            0 => state.picture.depth = random.pick(&[7, 17]),
+            0 => state.picture = self.script.wrong_depths(),
             1 => state.next = random.pick(&[above, u32::MAX]),
             _ => match &mut command {
+                Command::Read { bins, count } if random.once_in(4) => *count = 8 * bins.len() + 1,
                 Command::Read { bins, count } => {
                     (*bins, *count) = (vec![0x80], 1);
                     self.damage_neighbours(&mut lent);
@@ -400,7 +422,7 @@ impl Run {
             _ => {
                 let around: Vec<_> = picture.block_and_around(of, at).places().collect();
                 let (x, y) = self.script.random.pick(&around);
-                let sample = u32::from(picture.largest_sample()) + 1;
+                let sample = u32::from(picture.largest_sample(of)) + 1;
                 lent.deblocked[of][y * picture.plane_width(of) + x] = sample.min(u16::MAX.into()) as u16;
             }
         }
@@ -485,7 +507,7 @@ fn deblocked(script: &mut Script) -> BTreeMap<(u8, u32), Samples> {
     for (component, ctb) in blocks(&picture) {
         let of = usize::from(component);
         let block = picture.block(of, ctb as usize);
-        let samples = any_samples(&mut script.random, &picture, block.samples());
+        let samples = any_samples(&mut script.random, picture.largest_sample(of), block.samples());
         for ((x, y), sample) in block.places().zip(samples.made()) {
             script.deblocked[of][y * picture.plane_width(of) + x] = sample;
         }
@@ -494,9 +516,8 @@ fn deblocked(script: &mut Script) -> BTreeMap<(u8, u32), Samples> {
     made
 }
 
-/// Flat, of few levels close together or far apart, or noise.
-fn any_samples(random: &mut Random, picture: &Picture, number: usize) -> Samples {
-    let top = picture.largest_sample();
+/// Flat, of few levels close together or far apart, or noise; none above `top`.
+fn any_samples(random: &mut Random, top: u16, number: usize) -> Samples {
     let any = random.number() as u16 & top;
     let base = random.pick(&[0, top, any, top / 2]);
     let spread = random.pick(&[0, 1, 3, 3, top & !1, top / 2 + 1, top, top]);
@@ -504,19 +525,20 @@ fn any_samples(random: &mut Random, picture: &Picture, number: usize) -> Samples
     Samples { number, base, spread, seed, put_in: vec![] }
 }
 
-/// The set with one offset of luma changed a little, which most often no bins mean.
+/// The set with one offset of a component changed a little, which most often no bins mean.
 fn with_another_offset(random: &mut Random, set: CtuSet) -> CtuSet {
     use crate::sets::ComponentSet::{Band, Edge, Off};
-    let place = random.below(4);
+    let (of, place) = (random.below(3), random.below(4));
     let value = random.pick(&[-128, -32, -16, -8, 8, 16, 32, 127]);
     let changed = |mut offsets: [i8; 4]| {
         offsets[place] = value;
         offsets
     };
-    let luma = match set.luma {
+    let mut components = set.components();
+    components[of] = match components[of] {
         Off => Edge { class: 3, offsets: changed([0; 4]) },
         Band { position, offsets } => Band { position, offsets: changed(offsets) },
         Edge { class, offsets } => Edge { class, offsets: changed(offsets) },
     };
-    CtuSet { luma, ..set }
+    CtuSet::of(components)
 }

@@ -5,12 +5,10 @@ use second::replay::through_the_stage;
 use second::{ComponentSet, CtuSet, Picture, State, filter_picture};
 use std::path::PathBuf;
 
-/// Document 01's cases: monochrome, depth 8, luma on.
-pub const MONOCHROME: Picture =
-    Picture { width: 8, height: 8, ctb: 16, format: 0, depth: 8, luma: true, chroma: false };
+pub const MONOCHROME: Picture = Picture::MONOCHROME;
 
 /// Nine CTUs; the middle one, number 4, has all eight neighbours.
-pub const NINE: Picture = Picture { width: 48, height: 48, ctb: 16, format: 1, depth: 8, luma: true, chroma: true };
+pub const NINE: Picture = Picture { width: 48, height: 48, format: 1, chroma: true, ..MONOCHROME };
 
 pub fn state(picture: Picture, next: u32) -> State {
     State { picture, next }

@@ -4,7 +4,7 @@ use Prim.Native.Nat.{ℕ, _-_, _^_, _<_}
 use native.Mathlib.Omega.{arith}
 use lib.Pow.{pow-pos}
 use Rattle.standard.specs.Picture.{depthOf}
-use Rattle.standard.proofs.Depths.{depth-in-range}
+use Rattle.standard.proofs.Depths.{depth-at-most-16}
 use Rattle.standard.proofs.Answers.{tell-same}
 use borrow.Author.Needs.{needs}
 use Rattle.delivering.proofs.sample_too_large.Statement.{statement}
@@ -14,7 +14,7 @@ depth-of-requires : tie.Need-depth-of-requires
 depth-of-requires c κs = search needs
 
 top-of-requires : tie.Need-top-of-requires
-top-of-requires c κs = let s = c .before .before in omega (arith, c .depth-of .ensures, depth-in-range (s .pre) (s .args .component))
+top-of-requires c κs = depth-at-most-16 (c .before .before .pre) _ (c .depth-of .ensures)
 
 sample-above-requires : tie.Need-sample-above-requires
 sample-above-requires c κs = search needs

@@ -8,7 +8,7 @@ use Rattle.standard.specs.declared.Rectangle.{Rectangle}
 use Rattle.standard.specs.Picture.{depthOf, planeWidth, planeHeight, rectangle, grown}
 use Rattle.standard.specs.Refusals.{Tells}
 use Rattle.standard.proofs.Answers.{tell-same}
-use Rattle.standard.proofs.Depths.{depth-in-range}
+use Rattle.standard.proofs.Depths.{depth-at-most-16}
 use Rattle.standard.proofs.Seeing.{scans-grown, grown-scans}
 use Rattle.planes.specs.Places.{Placed}
 use Rattle.planes.specs.Scans.{BlockAbove}
@@ -35,7 +35,7 @@ depth-of-requires c κs = search needs
 top-of-requires : tie.Need-top-of-requires
 top-of-requires c κs =
     let s = c .before .before .before .before .before .before .before in
-    omega (arith, c .depth-of .ensures, depth-in-range (s .pre .0 .0) (s .args .component) .1)
+    depth-at-most-16 (s .pre .0 .0) _ (c .depth-of .ensures)
 
 grown-is : (c : tie.After-grown-rectangle) → let a = c .before .before .before .before .before .before .args in
     c .grown-rectangle .result ≡ grown (a .state .picture) (a .component) (rectangle (a .state .picture) (a .component) (a .ctb))

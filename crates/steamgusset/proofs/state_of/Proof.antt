@@ -20,11 +20,17 @@ element-copy-out-format c = search needs
 cast-format : tie.Need-cast-format
 cast-format c = search needs
 
-element-copy-out-depth : tie.Need-element-copy-out-depth
-element-copy-out-depth c = search needs
+element-copy-out-luma-depth : tie.Need-element-copy-out-luma-depth
+element-copy-out-luma-depth c = search needs
 
-cast-depth : tie.Need-cast-depth
-cast-depth c = search needs
+cast-luma-depth : tie.Need-cast-luma-depth
+cast-luma-depth c = search needs
+
+element-copy-out-chroma-depth : tie.Need-element-copy-out-chroma-depth
+element-copy-out-chroma-depth c = search needs
+
+cast-chroma-depth : tie.Need-cast-chroma-depth
+cast-chroma-depth c = search needs
 
 element-copy-out-luma : tie.Need-element-copy-out-luma
 element-copy-out-luma c = search needs
@@ -48,8 +54,10 @@ state-of-spec =
     element-copy-out-ctb
     element-copy-out-format
     cast-format
-    element-copy-out-depth
-    cast-depth
+    element-copy-out-luma-depth
+    cast-luma-depth
+    element-copy-out-chroma-depth
+    cast-chroma-depth
     element-copy-out-luma
     element-copy-out-chroma
     element-copy-out-next

@@ -12,7 +12,7 @@ use Rattle.standard.specs.declared.Offsets.the-variants.{Off, Band, Edge}
 use Rattle.standard.specs.declared.CtuSet.{CtuSet}
 use Rattle.standard.specs.Reasons.{Planes}
 use Rattle.standard.proofs.Depths.{alike}
-use Rattle.promises.specs.World.{World, Deliver, Filter, Rows}
+use Rattle.promises.specs.World.{World, Deliver, Filter}
 use Rattle.promises.specs.Demands.{after}
 use Rattle.promises.specs.Ours.{ours}
 use Rattle.worlds.proofs.Small.{deciding}

@@ -1,6 +1,6 @@
 -- Nothing is promised for want of a case: for every premise of a demand a small world in which it holds of the stage, computed.
 use mathlib.Core.Path.{_≡_, refl, ap, subst}
-use mathlib.Core.Bool.{Bool, true, false}
+use mathlib.Core.Bool.{Bool, true}
 use mathlib.Core.List.{List, [], _∷_, _++_}
 use mathlib.Core.Logic.{inl, inr, Dec·not}
 use mathlib.Core.Option.{none}

@@ -1,7 +1,7 @@
 -- What the code takes at a cursor is what the reader of the values' code says of the bins there, and the other way round.
 use mathlib.Core.Path.{◌≡◌, refl, sym, ap, ◌∙◌}
 use mathlib.Core.Bool.{Bool}
-use mathlib.Core.List.{List, [], ◌∷◌, ◌++◌, append_assoc, append_nil}
+use mathlib.Core.List.{List, [], ◌∷◌, ◌++◌, append_assoc, append-nil}
 use Prim.Native.Nat.{ℕ, ◌≤◌}
 use Rattle.standard.proofs.Codes.{Got, got, short, impossible, Code, Spelled}
 use Rattle.bins.specs.declared.Cursor.{Cursor}
@@ -35,7 +35,7 @@ module _ {A : Type 0} {P : A → Type 0} {f : A → List Bool} (code : Code (Spe
       go (got v beyond) k =
           let x = code.only l v beyond k in
           let longer : f a ++ [] ≡ x.0 ++ (beyond ++ (b ∷ more)) =
-          append_nil (f a) ∙ sym e ∙ ap (λ (y : List Bool). y ++ (b ∷ more)) x.1 ∙ append_assoc x.0 beyond (b ∷ more) in
+          append-nil (f a) ∙ sym e ∙ ap (λ (y : List Bool). y ++ (b ∷ more)) x.1 ∙ append_assoc x.0 beyond (b ∷ more) in
           let same : got a [] ≡ got v (beyond ++ (b ∷ more)) =
           sym (code.back a (f a) [] (record { holds = p; bins = refl })) ∙ ap code.read longer ∙ code.back v x.0 (beyond ++ (b ∷ more)) x.2 in
           not_nil beyond b more (cc)

@@ -1,7 +1,7 @@
 -- The form that a CTU's bins begin with, from its merges and the full form; and what that form says of all of them.
 use mathlib.Core.Path.{◌≡◌, refl, sym, ap, ◌∙◌}
 use mathlib.Core.Bool.{Bool, true, false}
-use mathlib.Core.List.{List, [], ◌∷◌, ◌++◌, append_assoc, append_nil}
+use mathlib.Core.List.{List, [], ◌∷◌, ◌++◌, append_assoc, append-nil}
 use mathlib.Core.Option.{Option, some, none}
 use Prim.Native.Nat.{ℕ, ◌-◌, ◌*◌, ◌≤◌, ◌<◌}
 use native.Mathlib.Nat.{not-suc-le-zero}
@@ -66,7 +66,7 @@ module _ (s : Switches) (has_left has_up : Bool) {bytes : List ℕ} {c : Cursor}
     pub up_missing : TakesMerge has_up bytes d cut → Begins s has_left has_up bytes c cut
     up_missing k =
         let m = merge_missing k in
-        let front = h.spells.1 ∙ ap (λ (l : List Bool). merge_bins has_left false ++ l) m.1 ∙ append_nil (merge_bins has_left false) in
+        let front = h.spells.1 ∙ ap (λ (l : List Bool). merge_bins has_left false ++ l) m.1 ∙ append-nil (merge_bins has_left false) in
         record { spells = (Up, true, [], m.0, ap (λ (l : List Bool). l ++ (true ∷ [])) front) }
 
     pub up_taken : {next : Cursor} → TakesMerge has_up bytes d (took true next) → Begins s has_left has_up bytes c (took Up next)
@@ -155,7 +155,7 @@ module _ (s : Switches) (has_left has_up : Bool) (bytes : List ℕ) (count : ℕ
       form_whole g left up hl hu =
           let none_left = nil_of (bins_at bytes end) (omega (arith, beyond, h.spells.2, h.spells.3, g)) in
           whole s on left up hl hu f h.spells.0
-          (h.spells.1 ∙ ap (λ (l : List Bool). bins_of_form s has_left has_up f ++ l) none_left ∙ append_nil (bins_of_form s has_left has_up f))
+          (h.spells.1 ∙ ap (λ (l : List Bool). bins_of_form s has_left has_up f ++ l) none_left ∙ append-nil (bins_of_form s has_left has_up f))
 
   -- both switches off
   module _ (off : any_on s ≡ false) where

@@ -1,6 +1,6 @@
 -- A component's six bytes: what they say by their type, what encodes a component, and three of them in a row.
 use mathlib.Core.Path.{◌≡◌, refl, sym, ap, ap₂, ◌∙◌}
-use mathlib.Core.List.{List, [], ◌++◌, append_nil}
+use mathlib.Core.List.{List, [], ◌++◌, append-nil}
 use Prim.Native.Nat.{ℕ, zero, suc, ◌+◌, ◌≤◌, ◌<◌}
 use native.Mathlib.Omega.{arith}
 use lib.IntN.{ℤ}
@@ -50,7 +50,7 @@ says_edge s e = by_edge_lem s.kind s.place (offset_of s.o1) (offset_of s.o2) (of
 
 pub coded : (o : Offsets) (s : Six) → ByteOffsets o → list_of s ≡ encode_offsets o → Coded o s
 coded o s h e =
-    record { bytes = e; back = ap decode_offsets (e ∙ sym (append_nil (encode_offsets o))) ∙ offsets_back o h [] }
+    record { bytes = e; back = ap decode_offsets (e ∙ sym (append-nil (encode_offsets o))) ∙ offsets_back o h [] }
 
 pub four_small : {o1 o2 o3 o4 : ℤ} → mag o1 < 128 → mag o2 < 128 → mag o3 < 128 → mag o4 < 128 → Small 128 o1 o2 o3 o4
 four_small {o1} {o2} {o3} {o4} h1 h2 h3 h4 = record { m1 = nat_abs_le o1 h1; m2 = nat_abs_le o2 h2; m3 = nat_abs_le o3 h3; m4 = nat_abs_le o4 h4 }

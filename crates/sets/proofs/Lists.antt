@@ -1,10 +1,10 @@
 -- Bytes put into a list, and read out of it, six by six.
 use mathlib.Core.Path.{◌≡◌, refl, sym, ap, ap₂, ◌∙◌}
-use mathlib.Core.List.{List, [], ◌∷◌, ◌++◌, append_assoc, append_nil}
+use mathlib.Core.List.{List, [], ◌∷◌, ◌++◌, append_assoc, append-nil}
 use Prim.Native.Nat.{ℕ, suc, ◌+◌, ◌*◌, ◌≤◌, ◌<◌}
 use native.Mathlib.Omega.{arith}
 use lib.ListN.{length, get_or, set, take, drop, length-append, drop_of_length-le}
-use lib.Seq.{sets, sets_eq, take_at, drop-append-add, length-take-le, drop-cons, take-add, drop-drop}
+use lib.Seq.{sets, sets-eq, take_at, drop-append-add, length-take-le, drop-cons, take-add, drop-drop}
 use Rattle.standard.specs.declared.CtuSet.{CtuSet}
 use Rattle.standard.specs.Table.{set_size, entry_size, encode, entry, entered}
 use Rattle.standard.proofs.Entries.{encode_length, entry_set}
@@ -15,7 +15,7 @@ use Rattle.sets.specs.Entries.{list_of, Coded, put}
 
 -- bytes stored one after the other are put there
 pub sets_put : (l : List ℕ) (at : ℕ) (new : List ℕ) → at + length new ≤ length l → sets l at new ≡ put l at new
-sets_put l at new h = sets_eq new l at h ∙ append_assoc (take at l) new (drop (at + length new) l)
+sets_put l at new h = sets-eq new l at h ∙ append_assoc (take at l) new (drop (at + length new) l)
 
 pub six_stored : (l : List ℕ) (at : ℕ) (s : Six) → at + 6 ≤ length l
     → set (set (set (set (set (set l at s.kind) (at + 1) s.place) (at + 2) s.o1) (at + 3) s.o2) (at + 4) s.o3) (at + 5) s.o4 ≡ put l at (list_of s)
@@ -70,7 +70,7 @@ put_entered l k q =
     ∙ ap (λ (e : List ℕ). take (entry_size * k) l ++ (e ++ drop (entry_size * k + entry_size) l)) (sym (entry_set q))
 
 pub put_alone : (l : List ℕ) (q : CtuSet) → length l ≡ set_size → put l 0 (encode q) ≡ encode q
-put_alone l q e = ap (λ (r : List ℕ). encode q ++ r) (drop_of_length-le l {i = 0 + length (encode q)} (omega (arith, encode_length q))) ∙ append_nil (encode q)
+put_alone l q e = ap (λ (r : List ℕ). encode q ++ r) (drop_of_length-le l {i = 0 + length (encode q)} (omega (arith, encode_length q))) ∙ append-nil (encode q)
 
 -- ---- read
 

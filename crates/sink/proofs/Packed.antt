@@ -1,7 +1,7 @@
 -- Bins in bytes: what is packed over fewer bins does not see them, one store into a byte puts the bits that fit there, and puts follow one another.
 use mathlib.Core.Path.{◌≡◌, refl, sym, ap, ap₂, ◌∙◌, subst}
 use mathlib.Core.Bool.{Bool}
-use mathlib.Core.List.{List, [], ◌∷◌, ◌++◌, append_assoc, append_nil}
+use mathlib.Core.List.{List, [], ◌∷◌, ◌++◌, append_assoc, append-nil}
 use Prim.Native.Nat.{ℕ, zero, suc, ◌+◌, ◌-◌, ◌*◌, ◌/◌, ◌%◌, ◌^◌, ◌≤◌, ◌<◌}
 use native.Mathlib.Nat.{add-zero, not-suc-le-zero, le_of_suc-le-suc, mod-eq_of_lt, lt_of_le_of_lt, div-mul-le_self}
 use native.Mathlib.Omega.{arith}
@@ -52,12 +52,12 @@ byte x s k t v e h =
     ∙ number_take s s (fixed_length 8 x) (omega arith)
     ∙ sym (number_high s (k + t) (fixed_length 8 x))
     ∙ ap (λ (n : ℕ). number n (fixed_length 8 x) / 2 ^ (k + t)) e
-    ∙ ap (λ (l : List Bool). number 8 l / 2 ^ (k + t)) (sym (append_nil (fixed_length 8 x)))
+    ∙ ap (λ (l : List Bool). number 8 l / 2 ^ (k + t)) (sym (append-nil (fixed_length 8 x)))
     ∙ ap (λ (n : ℕ). n / 2 ^ (k + t)) (number_fixed 8 x [] ∙ mod-eq_of_lt h) in
     let new : number (k + t) (fixed_length k v) ≡ v % 2 ^ k * 2 ^ t =
     number_add k t (fixed_length k v)
-    ∙ ap₂ (λ (l r : List Bool). number k l * 2 ^ t + number t r) (sym (append_nil (fixed_length k v)))
-    (ap (drop k) (sym (append_nil (fixed_length k v))) ∙ drop_at (fixed_length k v) [] k (fixed_length_lem k v))
+    ∙ ap₂ (λ (l r : List Bool). number k l * 2 ^ t + number t r) (sym (append-nil (fixed_length k v)))
+    (ap (drop k) (sym (append-nil (fixed_length k v))) ∙ drop_at (fixed_length k v) [] k (fixed_length_lem k v))
     ∙ ap₂ (λ (i j : ℕ). i * 2 ^ t + j) (number_fixed k v []) (number_nil t)
     ∙ add-zero (v % 2 ^ k * 2 ^ t) in
     ap (λ (n : ℕ). number n w) (sym e)
@@ -114,7 +114,7 @@ packed_more w b l n e =
 placed_then : (at : ℕ) (a b : List Bool) (l : List ℕ) → at ≤ 8 * length l → placed (at + length a) b (placed at a l) ≡ placed at (a ++ b) l
 unfolding placed
 placed_then at [] b l h = ap (λ (n : ℕ). placed n b l) (add-zero at)
-placed_then at (x ∷ a) [] l h = ap (λ (w : List Bool). packed (bins_of l at ++ (x ∷ w)) l) (sym (append_nil a))
+placed_then at (x ∷ a) [] l h = ap (λ (w : List Bool). packed (bins_of l at ++ (x ∷ w)) l) (sym (append-nil a))
 placed_then at (x ∷ a) (y ∷ b) l h =
     let w : List Bool = bins_of l at ++ (x ∷ a) in
     packed_more w (y ∷ b) l (at + length (x ∷ a)) (length-append (bins_of l at) (x ∷ a) ∙ ap (λ (n : ℕ). n + length (x ∷ a)) (bins_length l at h))

@@ -2,7 +2,7 @@
 -- so no two sets have the same bytes. Both hold of sets with no magnitude above 128: every set of i8 offsets, and every set within the rules.
 use mathlib.Core.Path.{◌≡◌, refl, sym, ap, ◌∙◌, subst}
 use mathlib.Core.Bool.{Bool, true, false}
-use mathlib.Core.List.{List, [], ◌++◌, append_assoc, append_nil}
+use mathlib.Core.List.{List, [], ◌++◌, append_assoc, append-nil}
 use Prim.Native.Nat.{ℕ, ◌+◌, ◌-◌, ◌*◌, ◌≤◌, ◌<◌}
 use native.Mathlib.Decide.{dec_lt}
 use native.Mathlib.Omega.{arith}
@@ -119,7 +119,7 @@ decode_encode q h r = ap decode (encode_parts q r) ∙ λ i. record {
     lb = offsets_length q.cb
 
 pub decode_whole : (q : CtuSet) → Bytes q → decode (encode q) ≡ q
-decode_whole q h = ap decode (sym (append_nil (encode q))) ∙ decode_encode q h []
+decode_whole q h = ap decode (sym (append-nil (encode q))) ∙ decode_encode q h []
 
 pub encode_injective : (p q : CtuSet) → Bytes p → Bytes q → encode p ≡ encode q → p ≡ q
 encode_injective p q hp hq e = sym (decode_whole p hp) ∙ ap decode e ∙ decode_whole q hq

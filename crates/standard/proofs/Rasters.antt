@@ -4,7 +4,7 @@ use mathlib.Core.Path.{◌≡◌, refl, sym, ap, ap₂, ◌∙◌, subst}
 use mathlib.Core.List.{List}
 use mathlib.Core.Logic.Dec
 use Prim.Native.Nat.{ℕ, zero, suc, ◌+◌, ◌-◌, ◌*◌, ◌/◌, ◌%◌, ◌≤◌, ◌<◌}
-use native.Mathlib.Nat.{zero-mul, add-mul, one-mul, mul_comm, mul-le-mul_right, mul_add_div_right, div-eq_of_lt, mul-add-mod_self_right, mod-eq_of_lt, div-lt_iff_lt-mul, mod-lt, div-add-mod', add-zero, not-suc-le-zero, le_of_suc-le-suc}
+use native.Mathlib.Nat.{zero-mul, add-mul, one-mul, mul_comm, mul-le-mul_right, mul-add-div_right, div-eq_of_lt, mul-add-mod_self_right, mod-eq_of_lt, div-lt_iff_lt-mul, mod-lt, div-add-mod', add-zero, not-suc-le-zero, le_of_suc-le-suc}
 use native.Mathlib.Decide.{dec_le, dec_lt}
 use native.Mathlib.Omega.{arith}
 use lib.ListN.{length, get_or}
@@ -32,7 +32,7 @@ index_lt {w} {h} {x} {y} p q =
 pub row_of : {w x : ℕ} (y : ℕ) → x < w → (y * w + x) / w ≡ y
 row_of {w} {x} y p =
     let z : 0 < w = omega arith in
-    mul_add_div_right z y x ∙ ap (λ (n : ℕ). y + n) (div-eq_of_lt p) ∙ add-zero y
+    mul-add-div_right z y x ∙ ap (λ (n : ℕ). y + n) (div-eq_of_lt p) ∙ add-zero y
 
 pub column_of : {w x : ℕ} (y : ℕ) → x < w → (y * w + x) % w ≡ x
 column_of {w} {x} y p = mul-add-mod_self_right y w x ∙ mod-eq_of_lt p

@@ -2,7 +2,7 @@
 -- ends too early or has bins that remain, and only one of the three.
 use mathlib.Core.Path.{◌≡◌, refl, sym, ap, ◌∙◌, subst}
 use mathlib.Core.Bool.{Bool}
-use mathlib.Core.List.{List, [], ◌∷◌, ◌++◌, append_assoc, append_nil}
+use mathlib.Core.List.{List, [], ◌∷◌, ◌++◌, append_assoc, append-nil}
 use mathlib.Core.Option.{Option}
 use Rattle.standard.specs.declared.CtuSet.{CtuSet}
 use Rattle.standard.specs.declared.Switches.{Switches}
@@ -30,12 +30,12 @@ unfolding read_ctu
 read_only s left up l {q} {more} e = (ctu_code s left up).only l q more e
 
 pub meant_is_got : {s : Switches} {left up : Option CtuSet} {q : CtuSet} {bins : List Bool} → Means s left up q bins → read_ctu s left up bins ≡ got q []
-meant_is_got {s} {left} {up} {q} {bins} m = ap (read_ctu s left up) (sym (append_nil bins)) ∙ read_back m []
+meant_is_got {s} {left} {up} {q} {bins} m = ap (read_ctu s left up) (sym (append-nil bins)) ∙ read_back m []
 
 pub got_is_meant : (s : Switches) (left up : Option CtuSet) (bins : List Bool) {q : CtuSet} → read_ctu s left up bins ≡ got q [] → Means s left up q bins
 got_is_meant s left up bins {q} e =
     let k = read_only s left up bins e in
-    subst (Means s left up q) (sym (k.1 ∙ append_nil k.0)) k.2
+    subst (Means s left up q) (sym (k.1 ∙ append-nil k.0)) k.2
 
 pub one_meaning : {s : Switches} {left up : Option CtuSet} {p q : CtuSet} {bins : List Bool} → Means s left up p bins → Means s left up q bins → p ≡ q
 one_meaning {p = p} {q = q} m n = let e : got p [] ≡ got q [] = sym (meant_is_got m) ∙ meant_is_got n in cc

@@ -2,7 +2,7 @@
 -- rules and so is no copy of a neighbour's that is: no bins mean it, and write refuses it.
 use mathlib.Core.Path.{◌≡◌, refl, sym, ap, ◌∙◌, subst}
 use mathlib.Core.Bool.{Bool, true, false}
-use mathlib.Core.List.{List, [], ◌++◌, append_nil}
+use mathlib.Core.List.{List, [], ◌++◌, append-nil}
 use mathlib.Core.Logic.{◌⊎◌, inl, inr}
 use mathlib.Core.Option.{Option, some, none}
 use Prim.Native.Nat.{ℕ, zero, suc}
@@ -47,7 +47,7 @@ stands_some bytes =
 
 offsets_stand : (o : Offsets) (six : List ℕ) → ByteOffsets o → six ≡ encode_offsets o → Stands six o
 offsets_stand o six h e =
-    let back : decode_offsets six ≡ o = ap decode_offsets (e ∙ sym (append_nil (encode_offsets o))) ∙ offsets_back o h [] in
+    let back : decode_offsets six ≡ o = ap decode_offsets (e ∙ sym (append-nil (encode_offsets o))) ∙ offsets_back o h [] in
     inl (e ∙ ap encode_offsets (sym back), sym back)
 
 pub stands_encode : (q : CtuSet) → Bytes q → StandsFor (encode q) q
@@ -71,7 +71,7 @@ stands_encode q h = record {
     second = drop_at a (b ++ c) 6 (offsets_length q.luma)
 
     third : drop 12 (a ++ (b ++ c)) ≡ c ++ []
-    third = sym (drop-drop 6 6 (a ++ (b ++ c))) ∙ ap (drop 6) second ∙ drop_at b c 6 (offsets_length q.cb) ∙ sym (append_nil c)
+    third = sym (drop-drop 6 6 (a ++ (b ++ c))) ∙ ap (drop 6) second ∙ drop_at b c 6 (offsets_length q.cb) ∙ sym (append-nil c)
 
 -- ---- a set outside the rules has no bins where the neighbours' sets are within them
 

@@ -1,5 +1,5 @@
 -- The marks passed are 0, and the others as they were.
-use mathlib.Core.List.{List, ◌++◌, append_nil}
+use mathlib.Core.List.{List, ◌++◌, append-nil}
 use mathlib.Core.Path.{◌≡◌, refl, ap, ◌∙◌}
 use Prim.Native.Nat.{ℕ, ◌≤◌, ◌<◌, ◌-◌}
 use native.Mathlib.Omega.{arith}
@@ -42,7 +42,7 @@ returns c =
     let l = c.before.loop in
     let d = c.before.before.args.marks.now in
     let k : l.i ≡ length d = omega arith in
-    l.invariant.2 ∙ ap (λ (n : ℕ). replicate n 0 ++ drop n d) k ∙ ap (λ (t : List ℕ). replicate (length d) 0 ++ t) (drop-length d) ∙ append_nil _
+    l.invariant.2 ∙ ap (λ (n : ℕ). replicate n 0 ++ drop n d) k ∙ ap (λ (t : List ℕ). replicate (length d) 0 ++ t) (drop-length d) ∙ append-nil _
 
 pub clear_spec : {M : Type 1} → statement M
 clear_spec =

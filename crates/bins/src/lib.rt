@@ -1,6 +1,8 @@
 // Reads a CTU's parameters from packed bins: bits from the most significant bit of the first byte on, of which the
 // first `count` are bins. What is taken at a cursor is a value that the rules allow, by the bins that spell it, and no
 // bin more; or the bins end within those of a value.
+#![tactic(auto)]
+
 ghost use Rattle.std.specs.Prelude.{◌≡◌, cond, true, ◌++◌, ℕ, ◌*◌, ◌^◌, ◌≤◌, ◌<◌, pos, neg_ℤ, length, drop, get_or};
 ghost use Rattle.standard.specs.Sets.{Fits, Valid};
 ghost use Rattle.standard.specs.Bins.{truncated, fixed_length, sign_bins, type_bins, rest, rest_of_cr, full, bits_of, bins_of, number};
@@ -15,27 +17,27 @@ ghost use Rattle.bins.specs.Forms.{ReadAs};
 use standard::{CtuSet, Offsets, Switches};
 
 // A place in the bins, and how many of them there are.
-#[derive(Drop)]
+#[derive(Clone, Copy)]
 struct Cursor {
     at: usize,
     count: usize,
 }
 
 // What is taken is a value and the cursor after it; or the bins end before the value does.
-#[derive(Drop)]
+#[derive(Clone, Copy)]
 enum FlagTaken {
     Value(bool, Cursor),
     Short,
 }
 
-#[derive(Drop)]
+#[derive(Clone, Copy)]
 enum NumberTaken {
     Value(u32, Cursor),
     Short,
 }
 
 // Four magnitudes, of the offsets 1 to 4.
-#[derive(Drop)]
+#[derive(Clone, Copy)]
 struct Magnitudes {
     v1: u32,
     v2: u32,
@@ -43,20 +45,20 @@ struct Magnitudes {
     v4: u32,
 }
 
-#[derive(Drop)]
+#[derive(Clone, Copy)]
 enum MagnitudesTaken {
     Value(Magnitudes, Cursor),
     Short,
 }
 
-#[derive(Drop)]
+#[derive(Clone, Copy)]
 enum OffsetTaken {
     Value(i8, Cursor),
     Short,
 }
 
 // Four offsets.
-#[derive(Drop)]
+#[derive(Clone, Copy)]
 struct Signed {
     o1: i8,
     o2: i8,
@@ -64,38 +66,38 @@ struct Signed {
     o4: i8,
 }
 
-#[derive(Drop)]
+#[derive(Clone, Copy)]
 enum SignedTaken {
     Value(Signed, Cursor),
     Short,
 }
 
-#[derive(Drop)]
+#[derive(Clone, Copy)]
 enum ComponentTaken {
     Value(Offsets, Cursor),
     Short,
 }
 
-#[derive(Drop)]
+#[derive(Clone, Copy)]
 enum ChromaTaken {
     Value(Offsets, Offsets, Cursor),
     Short,
 }
 
-#[derive(Drop)]
+#[derive(Clone, Copy)]
 enum SetTaken {
     Value(CtuSet, Cursor),
     Short,
 }
 
-#[derive(Drop)]
+#[derive(Clone, Copy)]
 enum FormTaken {
     Value(Form, Cursor),
     Short,
 }
 
 // The form that a CTU's bins have: a merge, whose set is the neighbour's, or a set in full; or what is wrong with them.
-#[derive(Drop)]
+#[derive(Clone, Copy)]
 pub enum Form {
     Left,
     Up,

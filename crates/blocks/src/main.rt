@@ -28,6 +28,8 @@
 // The filtered plane is 65535 throughout before the block is filtered. What is printed is the sum of
 // all its samples by 2^32; a second sum, which is 1 at first and becomes for each sample the next
 // number of xorshift32 after the sum XOR the sample; and where asked for the samples themselves.
+#![tactic(auto)]
+
 ghost use Rattle.std.specs.Prelude.{◌≡◌, ◌*◌, ◌<◌, ◌≤◌, true};
 ghost use Rattle.standard.specs.Refusals.{Tells};
 ghost use Rattle.samples.specs.Around.{NoMore};

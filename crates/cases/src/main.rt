@@ -17,6 +17,8 @@
 // that some "remain"; the number of bins that were written, or that there is "no room", and after a
 // colon all bytes that were lent. Or it names what the stage would refuse before it comes to the bins:
 // the "description", a stored set of a "neighbour", the "set" to be written, the "count" of bins.
+#![tactic(auto)]
+
 ghost use Rattle.std.specs.Prelude.{◌<◌};
 
 use records::{pair, print_word, wide};
@@ -24,7 +26,7 @@ use standard::{BitDepths, CtuSet, Picture, SET_BYTES, State, Switches};
 use writer::Beside;
 
 // A neighbour as the record has it: its set or none, or an entry that is no set within the rules.
-#[derive(Drop)]
+#[derive(Clone, Copy)]
 enum Neighbour {
     Sound(Beside),
     Bad,

@@ -1,4 +1,6 @@
 // Deliver: the samples of a CTB go into its component's plane, and its mark becomes 1.
+#![tactic(auto)]
+
 ghost use Rattle.std.specs.Prelude.{◌≡◌, ◌*◌, ◌<◌, length};
 ghost use Rattle.standard.specs.Picture.{Rules, components, plane_width, plane_height, ctu_count, rectangle};
 ghost use Rattle.standard.specs.Refusals.{Tells};

@@ -1,5 +1,7 @@
 // Filter: the samples of a CTB, as the set of its CTU says, from the deblocked plane of its component
 // into the filtered plane, and its mark becomes 2.
+#![tactic(auto)]
+
 ghost use Rattle.std.specs.Prelude.{◌≡◌, ◌⊎◌, ◌+◌, ◌*◌, ◌≤◌, ◌<◌, length};
 ghost use Rattle.standard.specs.Picture.{Rules, plane_width, plane_height, ctu_count, rectangle};
 ghost use Rattle.standard.specs.Sets.{component_of};
@@ -19,7 +21,7 @@ use samples::Around;
 use standard::{Answer, CtuSet, Offsets, Outcome, Picture, Rectangle, Refusal, State};
 
 // The set to filter with, or why not.
-#[derive(Drop)]
+#[derive(Clone, Copy)]
 enum Ready {
     Go(Offsets),
     Refused(Refusal),

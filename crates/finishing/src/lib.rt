@@ -1,4 +1,6 @@
 // Finished rows: the leading part of the caller's own filtered plane, and the companion that answers how many rows it has.
+#![tactic(auto)]
+
 ghost use Rattle.std.specs.Prelude.{◌≡◌, ◌*◌, ◌/◌, ◌≤◌, ◌<◌, min, take};
 ghost use Rattle.standard.specs.Picture.{Rules, components, plane_width, plane_height, ctb_height, columns, ctu_count};
 ghost use Rattle.standard.specs.Reasons.{PlanesFit, plane_of, MarksFit, marks_reasons};

@@ -1,4 +1,6 @@
 // A description tested, and what it says: planes and CTBs of each component, the order of CTUs, places of marks.
+#![tactic(auto)]
+
 ghost use Rattle.std.specs.Prelude.{◌≡◌, ◌⊎◌, ◌+◌, ◌-◌, ◌*◌, ◌/◌, ◌≤◌, ◌<◌, min};
 ghost use Rattle.standard.specs.Picture.{Side, Depth, Rules, depth_of, components, plane_width, plane_height, samples_of};
 ghost use Rattle.standard.specs.Picture.{ctb_width, ctb_height, columns, rows, ctu_count, rectangle, grown, due, left_of, above_of, merge_left, merge_up};
@@ -13,14 +15,14 @@ ghost use Rattle.geometry.specs.Geometry.{CtbSize, Counted, Divided, around, nea
 use standard::{ENTRY_BYTES, Layout, Picture, Rectangle, State, Switches};
 
 // What a component's width and height are divided by.
-#[derive(Drop)]
+#[derive(Clone, Copy)]
 struct Divisors {
     across: usize,
     down: usize,
 }
 
 // A neighbour of a CTU that a merge may reach, or none.
-#[derive(Drop)]
+#[derive(Clone, Copy)]
 pub enum Near {
     Nothing,
     At(u32),

@@ -1,4 +1,6 @@
 // What the calls share: the reasons with which they begin, and whether a CTU is due or a block is there.
+#![tactic(auto)]
+
 ghost use Rattle.std.specs.Prelude.{◌≡◌, ◌++◌};
 ghost use Rattle.standard.specs.Picture.{Rules, samples_of};
 ghost use Rattle.standard.specs.Refusals.{Tells};
@@ -11,20 +13,20 @@ use standard::{Answer, Picture, Refusal, State};
 // ---- what a call is lent
 
 // How long three planes are, luma, Cb and Cr; or the call is not lent them.
-#[derive(Drop)]
+#[derive(Clone, Copy)]
 pub enum Planes {
     NotLent,
     Lengths(usize, usize, usize),
 }
 
 // How long some bytes are; or the call is not lent them.
-#[derive(Drop)]
+#[derive(Clone, Copy)]
 pub enum Bytes {
     NotLent,
     Length(usize),
 }
 
-#[derive(Drop)]
+#[derive(Clone, Copy)]
 pub struct Lent {
     pub deblocked: Planes,
     pub filtered: Planes,

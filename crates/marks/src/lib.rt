@@ -1,4 +1,6 @@
 // The marks of CTBs: that of one, and scans of several.
+#![tactic(auto)]
+
 ghost use Rattle.std.specs.Prelude.{◌≡◌, ◌+◌, ◌≤◌, ◌<◌, length};
 ghost use Rattle.standard.specs.Picture.{Rules, components, ctu_count};
 ghost use Rattle.standard.specs.Refusals.{Tells};

@@ -1,4 +1,6 @@
 // Open: the marks cleared, and the first CTU due.
+#![tactic(auto)]
+
 ghost use Rattle.std.specs.Prelude.{◌≡◌, length, replicate};
 ghost use Rattle.standard.specs.Reasons.{open_reasons};
 ghost use Rattle.standard.specs.Ensures.{Judged, OpenEnsures};

@@ -1,4 +1,6 @@
 // Planes: where a sample stands, a block copied in, a block scanned, and the leading rows.
+#![tactic(auto)]
+
 ghost use Rattle.std.specs.Prelude.{◌≡◌, ◌+◌, ◌-◌, ◌*◌, ◌^◌, ◌≤◌, ◌<◌, length, get_or, take};
 ghost use Rattle.std.specs.Int.Bits.{bit_or};
 ghost use Rattle.standard.specs.Refusals.{Tells};

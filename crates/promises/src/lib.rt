@@ -1,5 +1,7 @@
 // The promises: no code, only specs/ and proofs/.
-#[derive(Drop)]
+#![tactic(auto)]
+
+#[derive(Clone, Copy)]
 pub struct Nothing {
     pub none: u32,
 }

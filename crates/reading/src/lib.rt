@@ -1,4 +1,6 @@
 // Read: the set that the bins of the next CTU mean is stored, and the CTU after it is due.
+#![tactic(auto)]
+
 ghost use Rattle.std.specs.Prelude.{◌*◌, ◌≤◌, length};
 ghost use Rattle.standard.specs.Refusals.{Tells};
 ghost use Rattle.standard.specs.Reasons.{CountExceedsTheBytes, bins_reasons, read_reasons};

@@ -1,5 +1,7 @@
 // What the programs that answer records share: numbers of one and of two bytes, and a line that has
 // one word.
+#![tactic(auto)]
+
 ghost use Rattle.std.specs.Prelude.{◌≡◌, ◌+◌, ◌*◌, ◌<◌};
 
 pub fn wide(b: u8) -> usize

@@ -32,6 +32,8 @@
 // the filtered planes, the marks and the table. A sum is 1 at first and becomes for each number in
 // turn the next number of xorshift32 after the sum XOR the number. Of a buffer it goes over the part
 // that is lent and the 64 places after it, as far as there are so many.
+#![tactic(auto)]
+
 ghost use Rattle.std.specs.Prelude.{◌≤◌};
 
 use standard::{
@@ -59,7 +61,7 @@ const BINS: usize = 64;
 const GUARD: usize = 64;
 
 // How much of each buffer is lent.
-#[derive(Drop)]
+#[derive(Clone, Copy)]
 struct Lent {
     y: usize,
     cb: usize,
@@ -72,7 +74,7 @@ struct Lent {
 }
 
 // What one command leaves to the next, besides the buffers.
-#[derive(Drop)]
+#[derive(Clone, Copy)]
 struct Kept {
     state: State,
     lent: Lent,

@@ -2,6 +2,8 @@
 // filtered plane. For a sample no table is read and nothing is matched: comparisons mask the four
 // offsets, and the sum saturates in the sample's own 16 bits, so that a row's loop has no branch and
 // becomes vector code.
+#![tactic(auto)]
+
 ghost use Rattle.std.specs.Prelude.{◌≡◌, cond, ◌+◌, ◌-◌, ◌^◌, ◌≤◌, ◌<◌, ltb, pos, ◌+ℤ◌, ◌-ℤ◌, ◌*ℤ◌, length};
 ghost use Rattle.std.proofs.Math.Option.{some};
 ghost use Rattle.std.specs.Int.Signed.{lt_z};
@@ -15,7 +17,7 @@ ghost use Rattle.rows.specs.Parts.{edge_row, band_row, Equal, Banded};
 // ---- the offsets of a block
 
 // Four offsets, scaled to the depth: SaoOffsetVal of 1 to 4.
-#[derive(Drop)]
+#[derive(Clone, Copy)]
 pub struct Scaled {
     pub o1: i16,
     pub o2: i16,
@@ -24,7 +26,7 @@ pub struct Scaled {
 }
 
 // By how much samples are moved, and the greatest sample.
-#[derive(Drop)]
+#[derive(Clone, Copy)]
 pub struct Moves {
     pub by: Scaled,
     pub top: u16,

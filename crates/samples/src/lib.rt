@@ -2,6 +2,8 @@
 // One match on type and class selects the rule of a block, and below it the filter by edge goes by the
 // two steps alone; what may not be compared lies outside the loops over samples. Neighbours are
 // samples of the same deblocked plane.
+#![tactic(auto)]
+
 ghost use Rattle.std.specs.Prelude.{◌≡◌, true, ◌&&◌, ℕ, ◌+◌, ◌-◌, ◌*◌, ◌≤◌, ◌<◌, min, max, pos, negsuc, nat_abs, ◌+ℤ◌};
 ghost use Rattle.standard.specs.Picture.{Inside};
 ghost use Rattle.standard.specs.Sets.{NotNegative};
@@ -21,7 +23,7 @@ use standard::{Layout, Offsets, Rectangle};
 // ---- steps to the neighbours
 
 // Across and down, from a sample to one of its neighbours.
-#[derive(Drop)]
+#[derive(Clone, Copy)]
 struct Step {
     dx: i32,
     dy: i32,
@@ -61,7 +63,7 @@ fn stepped(v: usize, d: i32) -> usize
 // ---- what may be compared
 
 // May a sample of a block be compared with a sample of each of the eight blocks around it?
-#[derive(Drop)]
+#[derive(Clone, Copy)]
 pub struct Around {
     pub northwest: bool,
     pub north: bool,
@@ -74,7 +76,7 @@ pub struct Around {
 }
 
 // Where a neighbour lies, across or down: before the block, in it or after it.
-#[derive(Drop)]
+#[derive(Clone, Copy)]
 enum Side {
     Before,
     Within,
@@ -82,7 +84,7 @@ enum Side {
 }
 
 // The answers of three blocks beside one another.
-#[derive(Drop)]
+#[derive(Clone, Copy)]
 struct Three {
     before: bool,
     within: bool,
@@ -245,7 +247,7 @@ fn second(a: usize, z: usize) -> usize
 
 // A row in three parts: up to and without c, then up to and without d, and the rest; in each both
 // neighbours of every sample may be compared with it, or in each of them they may not.
-#[derive(Drop)]
+#[derive(Clone, Copy)]
 struct Runs {
     c: usize,
     d: usize,

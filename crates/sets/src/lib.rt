@@ -1,5 +1,7 @@
 // A CTU's set compared, judged by the rules, stored in the table and read back. All of it goes over a
 // component's six bytes of the table: offsets are signed only where they become bytes, or bytes them.
+#![tactic(auto)]
+
 ghost use Rattle.std.specs.Prelude.{◌≡◌, ◌++◌, ◌+◌, ◌*◌, ◌≤◌, nat_abs, length, take, drop};
 ghost use Rattle.standard.specs.declared.Offsets.TheVariants.{Off};
 ghost use Rattle.standard.specs.Sets.{most, Small, EdgeSigns, Fits, Shares, Valid};
@@ -11,7 +13,7 @@ use standard::{CtuSet, ENTRY_BYTES, Offsets, SET_BYTES, Switches};
 
 // One component in an entry of the table: its type, its band position or class, and its offsets, each
 // plus 128.
-#[derive(Drop)]
+#[derive(Clone, Copy)]
 struct Six {
     kind: u8,
     place: u8,
@@ -22,7 +24,7 @@ struct Six {
 }
 
 // What an entry of the table holds.
-#[derive(Drop)]
+#[derive(Clone, Copy)]
 pub enum Found {
     Set(CtuSet),
     Bad,

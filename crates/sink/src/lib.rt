@@ -1,5 +1,7 @@
 // Puts the bins of a set's components into lent bytes, from the most significant bit of the first
 // byte on. A set outside the rules has bins as well: a magnitude above the largest is all ones.
+#![tactic(auto)]
+
 ghost use Rattle.std.specs.Prelude.{◌≡◌, ◌++◌, ◌+◌, ◌%◌, ◌≤◌, ◌<◌, min, nat_abs, length};
 ghost use Rattle.standard.specs.declared.Offsets.TheVariants.{Band};
 ghost use Rattle.standard.specs.Bins.{truncated, fixed_length, magnitudes, sign_bins, signs, type_idx, type_bins, rest, rest_of_cr, when};
@@ -9,7 +11,7 @@ ghost use Rattle.sink.specs.Puts.{Room, Puts};
 use standard::Offsets;
 
 // The place after the bins that were put.
-#[derive(Drop)]
+#[derive(Clone, Copy)]
 pub struct Put {
     pub at: usize,
 }

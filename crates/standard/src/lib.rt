@@ -1,11 +1,13 @@
 // The types of the stage. What they mean stands in specs/, which a reader has to believe;
 // the laws of those definitions, and document 01's ten cases, stand in proofs/.
+#![tactic(auto)]
+
 ghost use Rattle.std.specs.Prelude.{◌≡◌, ◌<◌};
 ghost use Rattle.standard.specs.Calls.{opened_state, state_after};
 ghost use Rattle.standard.specs.Refusals.{number_of};
 
 // BitDepthY of luma, and BitDepthC of Cb and Cr.
-#[derive(Drop)]
+#[derive(Clone, Copy)]
 pub struct BitDepths {
     pub luma: u8,
     pub chroma: u8,
@@ -13,7 +15,7 @@ pub struct BitDepths {
 
 // What a caller says of a picture. The fields hold any number, so that a description that breaks
 // a rule can be handed in, and is refused. `format` is chroma_format_idc.
-#[derive(Drop)]
+#[derive(Clone, Copy)]
 pub struct Picture {
     pub width: u32,
     pub height: u32,
@@ -25,7 +27,7 @@ pub struct Picture {
 }
 
 // The description, and the number of the next CTU to be read or written.
-#[derive(Drop)]
+#[derive(Clone, Copy)]
 pub struct State {
     pub picture: Picture,
     pub next: u32,
@@ -55,7 +57,7 @@ impl State {
 }
 
 // One component's set. Offsets are as coded, before they are scaled to the depth.
-#[derive(Drop)]
+#[derive(Clone, Copy)]
 pub enum Offsets {
     Off,
     Band {
@@ -75,7 +77,7 @@ pub enum Offsets {
 }
 
 // A CTU's set.
-#[derive(Drop)]
+#[derive(Clone, Copy)]
 pub struct CtuSet {
     pub luma: Offsets,
     pub cb: Offsets,
@@ -84,7 +86,7 @@ pub struct CtuSet {
 
 // What the bins of a CTU and the rules of its set depend on: the two switches, and the bit depth of
 // each component, which decides M.
-#[derive(Drop)]
+#[derive(Clone, Copy)]
 pub struct Switches {
     pub luma: bool,
     pub chroma: bool,
@@ -99,7 +101,7 @@ pub const SET_BYTES: usize = 18;
 pub const ENTRY_BYTES: usize = SET_BYTES;
 
 // Why a call is refused. `number_of` in specs/Refusals gives each its number in document 01.
-#[derive(Drop)]
+#[derive(Clone, Copy)]
 pub enum Refusal {
     Description,
     Length,
@@ -141,7 +143,7 @@ impl Refusal {
 }
 
 // Columns x0 up to and without x1, rows y0 up to and without y1.
-#[derive(Drop)]
+#[derive(Clone, Copy)]
 pub struct Rectangle {
     pub x0: usize,
     pub x1: usize,
@@ -151,7 +153,7 @@ pub struct Rectangle {
 
 // What the filter knows of a component: the size of its plane, its bit depth, and how far its
 // offsets are shifted.
-#[derive(Drop)]
+#[derive(Clone, Copy)]
 pub struct Layout {
     pub width: usize,
     pub height: usize,
@@ -161,52 +163,52 @@ pub struct Layout {
 
 // What open, deliver and filter answer, and the state that they hand back. The state stands beside
 // the answer, since an enum could hold none with an array in it.
-#[derive(Drop)]
+#[derive(Clone, Copy)]
 pub enum Answer {
     Done,
     Refused(Refusal),
 }
 
-#[derive(Drop)]
+#[derive(Clone, Copy)]
 pub struct Outcome {
     pub answer: Answer,
     pub state: State,
 }
 
 // What read answers: the set.
-#[derive(Drop)]
+#[derive(Clone, Copy)]
 pub enum ReadAnswer {
     Set(CtuSet),
     Refused(Refusal),
 }
 
-#[derive(Drop)]
+#[derive(Clone, Copy)]
 pub struct ReadOutcome {
     pub answer: ReadAnswer,
     pub state: State,
 }
 
 // What write answers: the number of bins.
-#[derive(Drop)]
+#[derive(Clone, Copy)]
 pub enum WriteAnswer {
     Bins(usize),
     Refused(Refusal),
 }
 
-#[derive(Drop)]
+#[derive(Clone, Copy)]
 pub struct WriteOutcome {
     pub answer: WriteAnswer,
     pub state: State,
 }
 
 // What the companion of finished rows answers: the number of sample rows.
-#[derive(Drop)]
+#[derive(Clone, Copy)]
 pub enum RowsAnswer {
     Rows(usize),
     Refused(Refusal),
 }
 
-#[derive(Drop)]
+#[derive(Clone, Copy)]
 pub struct RowsOutcome {
     pub answer: RowsAnswer,
     pub state: State,

@@ -3,6 +3,8 @@
 //
 // The state crosses as numbers, each at the place that is named below. A set crosses as its bytes. Each call answers 0, or
 // the number of its refusal; what else it has to say it leaves in lent memory. A refusal leaves all that is lent as it was.
+#![tactic(auto)]
+
 ghost use Rattle.std.specs.Prelude.{◌<◌, ◌≡◌};
 ghost use Rattle.standard.specs.Picture.{Rules};
 ghost use Rattle.standard.specs.Refusals.{Tells};

@@ -1,5 +1,7 @@
 // Worked worlds and wrong stages: no code, only specs/ and proofs/.
-#[derive(Drop)]
+#![tactic(auto)]
+
+#[derive(Clone, Copy)]
 pub struct Nothing {
     pub none: u32,
 }

@@ -1,6 +1,8 @@
 // Writes a CTU's set as bins at the front of lent bytes: a merge to the left if that set is equal, else
 // a merge upwards, else the full form. The bins are counted before any is put, so that bytes which
 // cannot hold them all are left as they were. The set need not be within the rules.
+#![tactic(auto)]
+
 ghost use Rattle.std.specs.Prelude.{◌≡◌, ◌++◌, ◌≤◌, ◌<◌, nat_abs, length};
 ghost use Rattle.std.proofs.Math.Option.{some};
 ghost use Rattle.standard.specs.declared.Offsets.TheVariants.{Band};
@@ -15,14 +17,14 @@ use sink::Put;
 use standard::{CtuSet, Offsets, Switches};
 
 // A neighbour that a merge may reach, with its set; or there is none.
-#[derive(Drop)]
+#[derive(Clone, Copy)]
 pub enum Beside {
     Nothing,
     Set(CtuSet),
 }
 
 // The shapes of a CTU's bins: none, a merge, or the full form.
-#[derive(Drop)]
+#[derive(Clone, Copy)]
 pub enum Shape {
     Empty,
     Left,
@@ -31,7 +33,7 @@ pub enum Shape {
 }
 
 // How many bins were written; or the bytes cannot hold them.
-#[derive(Drop)]
+#[derive(Clone, Copy)]
 pub enum Wrote {
     Bins(usize),
     NoRoom,

@@ -1,4 +1,6 @@
 // Write: a set becomes the shortest bins that mean it, is stored, and the CTU after it is due.
+#![tactic(auto)]
+
 ghost use Rattle.std.specs.Prelude.{◌≡◌};
 ghost use Rattle.standard.specs.Reasons.{set_reasons};
 ghost use Rattle.standard.specs.Ensures.{WriteDecides, Wrote as AtTheFront, WriteEnsures};
@@ -14,7 +16,7 @@ use standard::{Answer, CtuSet, Refusal, State, Switches, WriteAnswer, WriteOutco
 use writer::{Beside, Wrote};
 
 // What stands beside the CTU: the neighbour's set or none, or bytes that are no set within the rules.
-#[derive(Drop)]
+#[derive(Clone, Copy)]
 enum FoundBeside {
     Sound(Beside),
     Bad,

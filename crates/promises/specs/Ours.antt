@@ -1,6 +1,6 @@
 -- THE STAGE as an executable definition: the first of the call's reasons that holds refuses it, and where none holds it acts.
 use Rattle.std.specs.Prelude.{Bool, List, [], ℕ, zero, suc, ◌+◌, ◌*◌, min, length}
-use Rattle.std.proofs.Math.Logic.{Dec·not}
+use Rattle.std.proofs.Math.Logic.{Dec.not}
 use Rattle.std.proofs.Math.Option.{Option}
 use Rattle.std.proofs.Math.Decide.{ℕ_discrete}
 use Rattle.standard.specs.declared.Picture.{Picture}
@@ -51,9 +51,9 @@ painted_in p i k f planes = with_plane planes i (painted p i k f (plane_of plane
 
 -- the first row from r on, of n rows and c columns of CTBs, that has an unfiltered one; or the end of them
 unfoldable pub first_unfinished : ℕ → ℕ → (ℕ → ℕ) → ℕ → ℕ
-unfolding some? Dec·not
+unfolding some? Dec.not
 first_unfinished c zero mark r = r
-first_unfinished c (suc n) mark r = choose (some? c (λ j. Dec·not (ℕ_discrete (mark (r * c + j)) 2))) r (first_unfinished c n mark (suc r))
+first_unfinished c (suc n) mark r = choose (some? c (λ j. Dec.not (ℕ_discrete (mark (r * c + j)) 2))) r (first_unfinished c n mark (suc r))
 
 unfoldable pub finished_rows : State → ℕ → List ℕ → ℕ
 unfolding first_unfinished

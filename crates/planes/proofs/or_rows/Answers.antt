@@ -1,0 +1,12 @@
+-- The columns passed so far of two rows, ORed together.
+use Prim.Native.Nat.{◌-◌}
+use native.Mathlib.Omega.{arith}
+use Rattle.planes.proofs.Scans.{none_together, one_together}
+use Rattle.planes.proofs.or_rows.Goals as goal
+
+pub loop-j-init : goal.loop-j-init
+loop-j-init c = (omega arith, none_together _)
+
+pub loop-j-preserved : goal.loop-j-preserved
+loop-j-preserved c =
+    (omega arith, one_together _ c.loop-j.j c.loop-j.v c.loop-j.invariant.1)

@@ -1,0 +1,28 @@
+-- The byte that is stored has the bits before the place, the new ones, and zeros.
+use mathlib.Core.Path.{refl, ap}
+use Prim.Native.Nat.{ℕ, ◌-◌, ◌/◌, ◌%◌}
+use native.Mathlib.Omega.{arith}
+use lib.ListN.{get_or, set}
+use Rattle.sink.proofs.Packed.{part_puts, part_value, part_value_lt}
+use Rattle.sink.proofs.Put.part.Goals as goal
+
+pub overflow_add-out : goal.overflow_add-out
+overflow_add-out c =
+    let a = c.args in
+    let old = (c.slice_known-1.given (a.self.at / 8)).fits in
+    omega (arith, old, part_value_lt (get_or a.out.now (a.self.at / 8) 0) a.self.at a.width a.value old c.requires.width_nonzero.1)
+
+pub overflow_cast-out : goal.overflow_cast-out
+overflow_cast-out c =
+    let a = c.args in
+    let old = (c.slice_known-1.given (a.self.at / 8)).fits in
+    record { fits = part_value_lt (get_or a.out.now (a.self.at / 8) 0) a.self.at a.width a.value old c.requires.width_nonzero.1 }
+
+pub returns : goal.returns
+returns c =
+    let a = c.args in
+    let p = c.requires in
+    let l = a.out.now in
+    let i : ℕ = a.self.at / 8 in
+    part_puts l a.self.at a.width a.value _ _ p.1.1 p.1.0 p.0.fits (λ i. (c.slice_known-1.given i).fits)
+    (ap (λ (n : ℕ). set l i n) (part_value (get_or l i 0) (8 - a.self.at % 8) a.width a.value (c.slice_known-1.given i).fits (omega arith) (omega arith))) refl

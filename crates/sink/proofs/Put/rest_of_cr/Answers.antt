@@ -1,0 +1,31 @@
+-- By the type: nothing, a band, or magnitudes alone.
+use mathlib.Core.Path.{ap, sym}
+use Rattle.standard.specs.Bins.{magnitudes, rest, rest_of_cr}
+use Rattle.sink.proofs.Packed.{puts_none, puts_as}
+use Rattle.standard.proofs.Signed.{four_back}
+use Rattle.sink.proofs.Signed.{band_rest}
+use Rattle.sink.proofs.Put.rest_of_cr.Goals as goal
+
+pub returns-in-Off : goal.returns-in-Off
+unfolding rest_of_cr
+returns-in-Off c =
+    let m = c.args.m in
+    puts_as (sym (ap (rest_of_cr m) c.in-Off.is)) (puts_none _ _)
+
+pub returns-in-Band : goal.returns-in-Band
+unfolding rest rest_of_cr
+returns-in-Band c =
+    let m = c.args.m in
+    puts_as (sym (ap (rest_of_cr m) c.in-Band.is)) (puts_as (four_back (band_rest m c.in-Band.position) c.known_told-1.given.1.0.1 c.known_told-1.given.1.1.0.1 c.known_told-1.given.1.1.1.0.1 c.known_told-1.given.1.1.1.1.0.1) c.band.ensures)
+
+pub returns-in-Edge : goal.returns-in-Edge
+unfolding rest_of_cr
+returns-in-Edge c =
+    let m = c.args.m in
+    puts_as (sym (ap (rest_of_cr m) c.in-Edge.is)) (puts_as (four_back (magnitudes m) c.known_told-in-Edge-1.given.1.0.1 c.known_told-in-Edge-1.given.1.1.0.1 c.known_told-in-Edge-1.given.1.1.1.0.1 c.known_told-in-Edge-1.given.1.1.1.1.0.1) c.magnitudes.ensures)
+
+pub band-requires-clause-room : goal.band-requires-clause-room
+band-requires-clause-room c = ?
+
+pub magnitudes-requires-clause-room : goal.magnitudes-requires-clause-room
+magnitudes-requires-clause-room c = ?

@@ -1,6 +1,6 @@
 -- THE STAGE as an executable definition: the first of the call's reasons that holds refuses it, and where none holds it acts.
 use Rattle.std.specs.Prelude.{Bool, List, [], ℕ, zero, suc, ◌+◌, ◌*◌, min, length}
-use Rattle.std.proofs.Math.Logic.{Dec.not}
+use Rattle.std.proofs.Math.Logic.Dec
 use Rattle.std.proofs.Math.Option.{Option}
 use Rattle.std.proofs.Math.Decide.{ℕ_discrete}
 use Rattle.standard.specs.declared.Picture.{Picture}

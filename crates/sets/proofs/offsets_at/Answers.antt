@@ -22,5 +22,4 @@ pub returns-in_default : goal.returns-in_default
 returns-in_default c =
     let a = c.args in
     let six = c.get_six-in_default in
-    let other = (search rules) in
-    c.offsets_of-in_default.ensures ∙ cr_says a.table.now a.k c.requires six.result a.component other.0.1 other.1 six.ensures
+    c.offsets_of-in_default.ensures ∙ cr_says a.table.now a.k c.requires six.result a.component (search rules) (search rules) six.ensures

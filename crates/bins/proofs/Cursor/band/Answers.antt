@@ -33,11 +33,11 @@ unfolding signs
 returns c =
     let h1 = known (magnitudes_code _) c.magnitudes.ensures (ap magnitudes_taken c.in-Value.is) in
     let h2 = known (signs_code _) c.signs.ensures (ap signed_taken c.in-Value-signs.is) in
-    let h3 = known (fixed_code _) c.fixed.ensures (ap number_taken c.c.in-Value-fixed.k.given.1) in
+    let h3 = known (fixed_code _) c.fixed.ensures (ap number_taken c.in-Value-fixed.is) in
     let f = four c.in-Value.f in
     let e = value_holds (magnitudes_code c.args.m) h1 in
     let z = value_holds (signs_code f) h2 in
-    takes (band_code _) (valued (read_as (band_read _) (then_took _ h1 (then_took _ h2 (mapped_took (λ c.in-Value-fixed.k. band_of (f, (signed c.in-Value-signs.s, c.in-Value-fixed.k))) h3))))
+    takes (band_code _) (valued (read_as (band_read _) (then_took _ h1 (then_took _ h2 (mapped_took (λ k'. band_of (f, (signed c.in-Value-signs.s, k'))) h3))))
     (ap (λ (z : Four ℤ). band_of (f, (z, c.in-Value-fixed.k)))
     (four_back
     (omega (arith, z.0, e.0, c.requires.m_bound))

@@ -22,8 +22,8 @@ returns-in_default-fixed c =
 pub returns : goal.returns
 returns c =
     let h1 = known (edge_signed_code _) c.edge_offsets.ensures (ap signed_taken c.in-Value.is) in
-    let h2 = known (fixed_code _) c.fixed.ensures (ap number_taken c.c.in-Value-fixed.k.given.1) in
+    let h2 = known (fixed_code _) c.fixed.ensures (ap number_taken c.in-Value-fixed.is) in
     let e = value_holds (edge_signed_code c.args.m) h1 in
-    takes (edge_code _) (valued (read_as (edge_read _) (then_took _ h1 (mapped_took (λ c.in-Value-fixed.k. edge_of c.in-Value-fixed.k (signed c.in-Value.s)) h2)))
+    takes (edge_code _) (valued (read_as (edge_read _) (then_took _ h1 (mapped_took (λ k'. edge_of k' (signed c.in-Value.s)) h2)))
     (ap (λ (z : Four ℤ). edge_of c.in-Value-fixed.k z)
     (four_back (omega (arith, e.0.m1, c.requires.m_bound)) (omega (arith, e.0.m2, c.requires.m_bound)) (omega (arith, e.0.m3, c.requires.m_bound)) (omega (arith, e.0.m4, c.requires.m_bound)))))

@@ -8,16 +8,16 @@ use Rattle.bins.proofs.Steps.{known_taken, valued_taken}
 use Rattle.bins.proofs.Cursor.form.Goals as goal
 use Rattle.bins.proofs.Cursor.form.Goals.{Else-left, Else-up, In-Value, In-Value-merge}
 
-left-read : (c : In-Value)
+left_read : (c : In-Value)
     → let a = c.args in
     TakesMerge a.has_left a.bytes.now a.self (took c.in-Value.left c.in-Value.c1)
-left-read c = known_taken c.merge.ensures (ap flag_taken c.in-Value.is)
+left_read c = known_taken c.merge.ensures (ap flag_taken c.in-Value.is)
 
 -- merge left was not taken
 not_left : (c : Else-left)
     → let a = c.args in
     TakesMerge a.has_left a.bytes.now a.self (took false c.in-Value.c1)
-not_left c = valued_taken (left-read c) (sym c.if-left.false)
+not_left c = valued_taken (known_taken c.merge.ensures (ap flag_taken c.in-Value.is)) (sym c.if-left.false)
 
 up_read : (c : In-Value-merge)
     → let a = c.args in
@@ -25,10 +25,10 @@ up_read : (c : In-Value-merge)
 up_read c = known_taken c.merge-2.ensures (ap flag_taken c.in-Value-merge.is)
 
 -- nor merge up
-not-up : (c : Else-up)
+not_up : (c : Else-up)
     → let a = c.args in
     TakesMerge a.has_up a.bytes.now c.in-Value.c1 (took false c.in-Value-merge.c2)
-not-up c = valued_taken (up_read c) (sym c.if-up.false)
+not_up c = valued_taken (known_taken c.merge-2.ensures (ap flag_taken c.in-Value-merge.is)) (sym c.if-up.false)
 
 pub returns-in_default : goal.returns-in_default
 returns-in_default c =
@@ -43,5 +43,5 @@ returns-in_default-merge c =
 pub returns-in_default-full : goal.returns-in_default-full
 returns-in_default-full c =
     let a = c.args in
-    full_missing a.s a.has_left a.has_up (not_left (goal.at.returns-in_default-full c).Else-left) (not-up (goal.at.returns-in_default-full c).Else-up)
+    full_missing a.s a.has_left a.has_up (not_left (goal.at.returns-in_default-full c).Else-left) (not_up (goal.at.returns-in_default-full c).Else-up)
     (known_taken c.full.ensures (ap set_taken c.in_default-full.is))

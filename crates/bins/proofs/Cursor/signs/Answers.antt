@@ -42,7 +42,6 @@ returns c =
     let h2 = known (sign_code _) c.sign-2.ensures (ap offset_taken c.in-Value-sign.is) in
     let h3 = known (sign_code _) c.sign-3.ensures (ap offset_taken c.in-Value-sign-2.is) in
     let h4 = known (sign_code _) c.sign-4.ensures (ap offset_taken c.in-Value-sign-3.is) in
-    let pre = c.requires in
     let f = c.args.f in
     let e1 = value_holds (sign_code f.v1) h1 in
     let e2 = value_holds (sign_code f.v2) h2 in
@@ -50,7 +49,7 @@ returns c =
     let e4 = value_holds (sign_code f.v4) h4 in
     takes (signs_code _) (valued (read_as (signs_read _) (then_took _ h1 (then_took _ h2 (then_took _ h3 (mapped_took _ h4)))))
     (four_back
-    (omega (arith, e1, pre.1.0))
-    (omega (arith, e2, pre.1.1))
-    (omega (arith, e3, pre.1.2))
-    (omega (arith, e4, pre.1.3))))
+    (omega (arith, e1, c.requires.v1_bound.0))
+    (omega (arith, e2, c.requires.v1_bound.1))
+    (omega (arith, e3, c.requires.v1_bound.2))
+    (omega (arith, e4, c.requires.v1_bound.3))))

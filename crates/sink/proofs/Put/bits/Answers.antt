@@ -1,7 +1,7 @@
 -- The high bits of the number are put so far, and each round puts the next of them.
-use Prim.Native.Nat.{◌-◌}
+use Prim.Native.Nat.{◌-◌, ◌/◌, ◌^◌}
 use native.Mathlib.Omega.{arith}
-use Rattle.sink.proofs.Loop.{none, one_part}
+use Rattle.sink.proofs.Loop.{none, one_part, room_part}
 use Rattle.sink.proofs.Put.bits.Goals as goal
 
 pub loop-left-init : goal.loop-left-init
@@ -15,4 +15,5 @@ loop-left-preserved c =
     (omega arith, one_part a.width l.left k a.value (omega arith) l.invariant.0 l.invariant.1 c.part-c.ensures)
 
 pub part-c-requires-clause-room : goal.part-c-requires-clause-room
-part-c-requires-clause-room c = ?
+part-c-requires-clause-room c =
+    let l = c.loop-left in room_part c.args.width l.left c.fewer-k.result (c.args.value / 2 ^ l.left) (omega arith) l.invariant.0 c.requires.room l.invariant.1

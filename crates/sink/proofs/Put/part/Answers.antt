@@ -21,8 +21,7 @@ overflow_cast-out c =
 pub returns : goal.returns
 returns c =
     let a = c.args in
-    let p = c.requires in
     let l = a.out.now in
     let i : ℕ = a.self.at / 8 in
-    part_puts l a.self.at a.width a.value _ _ p.1.1 p.1.0 p.0.fits (λ i. (c.slice_known-1.given i).fits)
+    part_puts l a.self.at a.width a.value _ _ c.requires.width_nonzero.1 c.requires.width_nonzero.0 c.requires.room.fits (λ i. (c.slice_known-1.given i).fits)
     (ap (λ (n : ℕ). set l i n) (part_value (get_or l i 0) (8 - a.self.at % 8) a.width a.value (c.slice_known-1.given i).fits (omega arith) (omega arith))) refl

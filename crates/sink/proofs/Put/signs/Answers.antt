@@ -13,8 +13,7 @@ unfolding signs
 sign-c1-requires c =
     let a = c.args in
     let f = c.ranges in
-    let r1 = c.requires in
-    room_as (ap length (ap sign_bins (backed w8 a.o1 f.o1.sfits))) (room_first (sign_bins a.o1) (sign_bins a.o2 ++ (sign_bins a.o3 ++ (sign_bins a.o4))) r1)
+    room_as (ap length (ap sign_bins (backed w8 a.o1 f.o1.sfits))) (room_first (sign_bins a.o1) (sign_bins a.o2 ++ (sign_bins a.o3 ++ (sign_bins a.o4))) c.requires)
 
 pub sign-c2-requires : goal.sign-c2-requires
 unfolding signs
@@ -22,8 +21,7 @@ sign-c2-requires c =
     let a = c.args in
     let f = c.ranges in
     let p1 = puts_as (ap sign_bins (backed w8 a.o1 f.o1.sfits)) c.sign-c1.ensures in
-    let r1 = c.requires in
-    let r2 = room_rest (sign_bins a.o1) (sign_bins a.o2 ++ (sign_bins a.o3 ++ (sign_bins a.o4))) r1 p1 in
+    let r2 = room_rest (sign_bins a.o1) (sign_bins a.o2 ++ (sign_bins a.o3 ++ (sign_bins a.o4))) c.requires p1 in
     room_as (ap length (ap sign_bins (backed w8 a.o2 f.o2.sfits))) (room_first (sign_bins a.o2) (sign_bins a.o3 ++ (sign_bins a.o4)) r2)
 
 pub sign-c3-requires : goal.sign-c3-requires
@@ -33,8 +31,7 @@ sign-c3-requires c =
     let f = c.ranges in
     let p1 = puts_as (ap sign_bins (backed w8 a.o1 f.o1.sfits)) c.sign-c1.ensures in
     let p2 = puts_as (ap sign_bins (backed w8 a.o2 f.o2.sfits)) c.sign-c2.ensures in
-    let r1 = c.requires in
-    let r2 = room_rest (sign_bins a.o1) (sign_bins a.o2 ++ (sign_bins a.o3 ++ (sign_bins a.o4))) r1 p1 in
+    let r2 = room_rest (sign_bins a.o1) (sign_bins a.o2 ++ (sign_bins a.o3 ++ (sign_bins a.o4))) c.requires p1 in
     let r3 = room_rest (sign_bins a.o2) (sign_bins a.o3 ++ (sign_bins a.o4)) r2 p2 in
     room_as (ap length (ap sign_bins (backed w8 a.o3 f.o3.sfits))) (room_first (sign_bins a.o3) (sign_bins a.o4) r3)
 
@@ -46,8 +43,7 @@ sign-requires c =
     let p1 = puts_as (ap sign_bins (backed w8 a.o1 f.o1.sfits)) c.sign-c1.ensures in
     let p2 = puts_as (ap sign_bins (backed w8 a.o2 f.o2.sfits)) c.sign-c2.ensures in
     let p3 = puts_as (ap sign_bins (backed w8 a.o3 f.o3.sfits)) c.sign-c3.ensures in
-    let r1 = c.requires in
-    let r2 = room_rest (sign_bins a.o1) (sign_bins a.o2 ++ (sign_bins a.o3 ++ (sign_bins a.o4))) r1 p1 in
+    let r2 = room_rest (sign_bins a.o1) (sign_bins a.o2 ++ (sign_bins a.o3 ++ (sign_bins a.o4))) c.requires p1 in
     let r3 = room_rest (sign_bins a.o2) (sign_bins a.o3 ++ (sign_bins a.o4)) r2 p2 in
     let r4 = room_rest (sign_bins a.o3) (sign_bins a.o4) r3 p3 in
     room_as (ap length (ap sign_bins (backed w8 a.o4 f.o4.sfits))) (r4)

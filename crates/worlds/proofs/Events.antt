@@ -271,6 +271,7 @@ sets_among s t (e ∷ es) = sets_of (call_of s t e) (answer_of s t e) + sets_amo
 
 module _ (s : Setup) (Q : Call → Type 0) where
   pub happened : (t : Time) (es : List Event) → Happen s t es → Known s Q t es → Happened ours Q (calls s t es) (world_at s t)
+  happened t [] h x'' = elim x'' [ ]
   happened t (e ∷ es) h (inl k) = inl (k.0, subst Accepted (sym (answers h.0.0)) k.1)
   happened t (e ∷ es) h (inr k) =
       inr (subst (Happened ours Q (calls s (later s t e) es)) (sym (leaves h.0.0)) (happened (later s t e) es h.1 k))

@@ -1,0 +1,28 @@
+-- By the type; a band has as many as that of Cb.
+use borrow.Author.Rules.{rules}
+use mathlib.Core.Path.{sym, ap, ◌∙◌}
+use native.Mathlib.Omega.{arith}
+use lib.ListN.{length}
+use Rattle.standard.specs.declared.Offsets.{Offsets}
+use Rattle.standard.specs.Bins.{magnitudes, rest_of_cr}
+use Rattle.standard.proofs.Signed.{four_back}
+use Rattle.sink.proofs.Signed.{band_rest}
+use Rattle.writer.proofs.Lengths.{rest_of_cr_off, rest_of_cr_band, rest_of_cr_edge}
+use Rattle.writer.proofs.bins_of_rest_of_cr.Goals as goal
+
+pub returns-in-Off : goal.returns-in-Off
+returns-in-Off c =
+    let m = c.args.m in
+    (sym (ap (λ (o : Offsets). length (rest_of_cr m o)) c.in-Off.is ∙ rest_of_cr_off m), omega arith)
+
+pub returns-in-Band : goal.returns-in-Band
+returns-in-Band c =
+    let m = c.args.m in
+    let back = ap length (four_back (band_rest m c.in-Band.position) {o1 = c.in-Band.o1} {o2 = c.in-Band.o2} {o3 = c.in-Band.o3} {o4 = c.in-Band.o4} (search rules) (search rules) (search rules) (search rules)) in
+    (omega (arith, c.bins_of_band.ensures.0, back, ap (λ (o : Offsets). length (rest_of_cr m o)) c.in-Band.is ∙ rest_of_cr_band m c.in-Band.position c.in-Band.o1 c.in-Band.o2 c.in-Band.o3 c.in-Band.o4), omega arith)
+
+pub returns-in-Edge : goal.returns-in-Edge
+returns-in-Edge c =
+    let m = c.args.m in
+    let back = ap length (four_back (magnitudes m) {o1 = c.in-Edge.o1} {o2 = c.in-Edge.o2} {o3 = c.in-Edge.o3} {o4 = c.in-Edge.o4} (search rules) (search rules) (search rules) (search rules)) in
+    (omega (arith, c.bins_of_magnitudes.ensures.0, back, ap (λ (o : Offsets). length (rest_of_cr m o)) c.in-Edge.is ∙ rest_of_cr_edge m c.in-Edge.class c.in-Edge.o1 c.in-Edge.o2 c.in-Edge.o3 c.in-Edge.o4), omega arith)

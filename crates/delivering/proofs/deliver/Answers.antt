@@ -15,16 +15,16 @@ use borrow.Author.Rules.{rules}
 use Rattle.delivering.proofs.deliver.Goals as goal
 use Rattle.delivering.proofs.deliver.Goals.{After-mark_place-i, After-p-1, In_default}
 
-clear : (c : After-p-1) → Clear ((let a = c.args in deliver_reasons a.state a.component a.ctb a.samples.now (L c) a.marks.now))
-clear c = subst (Judged ((let a = c.args in deliver_reasons a.state a.component a.ctb a.samples.now (L c) a.marks.now))) c.in-Done.is c.deliver_answer.ensures
+clear : (c : After-p-1) → Clear (let a = c.args in deliver_reasons a.state a.component a.ctb a.samples.now ((let a = c.args in record { y = a.y.now; cb = a.cb.now; cr = a.cr.now })) a.marks.now)
+clear c = subst (Judged (let a = c.args in deliver_reasons a.state a.component a.ctb a.samples.now ((let a = c.args in record { y = a.y.now; cb = a.cb.now; cr = a.cr.now })) a.marks.now)) c.in-Done.is c.deliver_answer.ensures
 
-ok : (c : After-p-1) → let a = c.args in MayDeliver a.state a.component a.ctb a.samples.now ((let a = c.args in record { y = a.y.now; cb = a.cb.now; cr = a.cr.now })) a.marks.now
-ok c = let a = c.args in may_deliver a.state a.component a.ctb a.samples.now ((let a = c.args in record { y = a.y.now; cb = a.cb.now; cr = a.cr.now })) a.marks.now (clear c)
+ok : (c : After-p-1) → let a = c.args in MayDeliver a.state a.component a.ctb a.samples.now (let a = c.args in record { y = a.y.now; cb = a.cb.now; cr = a.cr.now }) a.marks.now
+ok c = let a = c.args in may_deliver a.state a.component a.ctb a.samples.now (let a = c.args in record { y = a.y.now; cb = a.cb.now; cr = a.cr.now }) a.marks.now (clear c)
 
 fits : (c : After-p-1) (j : ℕ) → c.args.component ≡ j → let a = c.args in
-    length (plane_of ((let a = c.args in record { y = a.y.now; cb = a.cb.now; cr = a.cr.now })) j) ≡ plane_width a.state.picture a.component * plane_height a.state.picture a.component
+    length (plane_of (let a = c.args in record { y = a.y.now; cb = a.cb.now; cr = a.cr.now }) j) ≡ plane_width a.state.picture a.component * plane_height a.state.picture a.component
 fits c j e =
-    ap (λ (n : ℕ). length (plane_of ((let a = c.args in record { y = a.y.now; cb = a.cb.now; cr = a.cr.now })) n)) (sym e) ∙ plane_long c.args.component (ok c).deblocked_fits (ok c).block.component
+    ap (λ (n : ℕ). length (plane_of (let a = c.args in record { y = a.y.now; cb = a.cb.now; cr = a.cr.now }) n)) (sym e) ∙ plane_long c.args.component (ok c).deblocked_fits (ok c).block.component
 
 is_two : (c : In_default) → c.args.component ≡ 2
 is_two c = only_two c.args.state.picture (ok c).block.component (search rules) (search rules)
@@ -38,42 +38,54 @@ mark_place-i-requires c = (ok (goal.at.mark_place-i-requires c).After-p-1).rules
 
 pub returns-in-0 : goal.returns-in-0
 returns-in-0 c =
+    let here = goal.at.returns-in-0 c in
     let L : Planes = let a = c.args in record { y = a.y.now; cb = a.cb.now; cr = a.cr.now } in
-    (clear (goal.at.returns-in-0 c).After-p-1, (refl, block_written (L) 0 c.in-0.is (omega arith) c.put_ctb.ensures, marked-is (goal.at.returns-in-0 c).After-mark_place-i))
+    (clear here.After-p-1, (refl, block_written L 0 c.in-0.is (omega arith) c.put_ctb.ensures, marked-is here.After-mark_place-i))
 
 pub returns-in-1 : goal.returns-in-1
 returns-in-1 c =
+    let here = goal.at.returns-in-1 c in
     let L : Planes = let a = c.args in record { y = a.y.now; cb = a.cb.now; cr = a.cr.now } in
-    (clear (goal.at.returns-in-1 c).After-p-1, (refl, block_written (L) 1 c.in-1.is (omega arith) c.put_ctb-in-1.ensures, marked-is (goal.at.returns-in-1 c).After-mark_place-i))
+    (clear here.After-p-1, (refl, block_written L 1 c.in-1.is (omega arith) c.put_ctb-in-1.ensures, marked-is here.After-mark_place-i))
 
 pub returns-in_default : goal.returns-in_default
 returns-in_default c =
+    let here = goal.at.returns-in_default c in
     let L : Planes = let a = c.args in record { y = a.y.now; cb = a.cb.now; cr = a.cr.now } in
-    (clear (goal.at.returns-in_default c).After-p-1, (refl, block_written (L) 2 (is_two (goal.at.returns-in_default c).In_default) (omega arith) c.put_ctb-in_default.ensures, marked-is (goal.at.returns-in_default c).After-mark_place-i))
+    (clear here.After-p-1, (refl, block_written L 2 (is_two here.In_default) (omega arith) c.put_ctb-in_default.ensures, marked-is here.After-mark_place-i))
 
 pub put_ctb-requires-clause-rules : goal.put_ctb-requires-clause-rules
-put_ctb-requires-clause-rules c = ((((ok (goal.at.put_ctb-requires-clause-rules c).After-p-1).rules, (ok (goal.at.put_ctb-requires-clause-rules c).After-p-1).block.ctb), ((ok (goal.at.put_ctb-requires-clause-rules c).After-p-1).deliverable.long, fits (goal.at.put_ctb-requires-clause-rules c).After-p-1 0 c.in-0.is))).0
+put_ctb-requires-clause-rules c =
+    let here = goal.at.put_ctb-requires-clause-rules c in ((ok here.After-p-1).rules, (ok here.After-p-1).block.ctb)
 
 pub put_ctb-requires-clause-samples_len : goal.put_ctb-requires-clause-samples_len
-put_ctb-requires-clause-samples_len c = ((((ok (goal.at.put_ctb-requires-clause-samples_len c).After-p-1).rules, (ok (goal.at.put_ctb-requires-clause-samples_len c).After-p-1).block.ctb), ((ok (goal.at.put_ctb-requires-clause-samples_len c).After-p-1).deliverable.long, fits (goal.at.put_ctb-requires-clause-samples_len c).After-p-1 0 c.in-0.is))).1
+put_ctb-requires-clause-samples_len c =
+    let here = goal.at.put_ctb-requires-clause-samples_len c in (ok here.After-p-1).deliverable.long
 
 pub put_ctb-requires-clause-plane_len : goal.put_ctb-requires-clause-plane_len
-put_ctb-requires-clause-plane_len c = ((((ok (goal.at.put_ctb-requires-clause-plane_len c).After-p-1).rules, (ok (goal.at.put_ctb-requires-clause-plane_len c).After-p-1).block.ctb), ((ok (goal.at.put_ctb-requires-clause-plane_len c).After-p-1).deliverable.long, fits (goal.at.put_ctb-requires-clause-plane_len c).After-p-1 0 c.in-0.is))).2
+put_ctb-requires-clause-plane_len c =
+    let here = goal.at.put_ctb-requires-clause-plane_len c in fits here.After-p-1 0 c.in-0.is
 
 pub put_ctb-requires-in-1-clause-rules : goal.put_ctb-requires-in-1-clause-rules
-put_ctb-requires-in-1-clause-rules c = ((((ok (goal.at.put_ctb-requires-in-1-clause-rules c).After-p-1).rules, (ok (goal.at.put_ctb-requires-in-1-clause-rules c).After-p-1).block.ctb), ((ok (goal.at.put_ctb-requires-in-1-clause-rules c).After-p-1).deliverable.long, fits (goal.at.put_ctb-requires-in-1-clause-rules c).After-p-1 1 c.in-1.is))).0
+put_ctb-requires-in-1-clause-rules c =
+    let here = goal.at.put_ctb-requires-in-1-clause-rules c in ((ok here.After-p-1).rules, (ok here.After-p-1).block.ctb)
 
 pub put_ctb-requires-in-1-clause-samples_len : goal.put_ctb-requires-in-1-clause-samples_len
-put_ctb-requires-in-1-clause-samples_len c = ((((ok (goal.at.put_ctb-requires-in-1-clause-samples_len c).After-p-1).rules, (ok (goal.at.put_ctb-requires-in-1-clause-samples_len c).After-p-1).block.ctb), ((ok (goal.at.put_ctb-requires-in-1-clause-samples_len c).After-p-1).deliverable.long, fits (goal.at.put_ctb-requires-in-1-clause-samples_len c).After-p-1 1 c.in-1.is))).1
+put_ctb-requires-in-1-clause-samples_len c =
+    let here = goal.at.put_ctb-requires-in-1-clause-samples_len c in (ok here.After-p-1).deliverable.long
 
 pub put_ctb-requires-in-1-clause-plane_len : goal.put_ctb-requires-in-1-clause-plane_len
-put_ctb-requires-in-1-clause-plane_len c = ((((ok (goal.at.put_ctb-requires-in-1-clause-plane_len c).After-p-1).rules, (ok (goal.at.put_ctb-requires-in-1-clause-plane_len c).After-p-1).block.ctb), ((ok (goal.at.put_ctb-requires-in-1-clause-plane_len c).After-p-1).deliverable.long, fits (goal.at.put_ctb-requires-in-1-clause-plane_len c).After-p-1 1 c.in-1.is))).2
+put_ctb-requires-in-1-clause-plane_len c =
+    let here = goal.at.put_ctb-requires-in-1-clause-plane_len c in fits here.After-p-1 1 c.in-1.is
 
 pub put_ctb-requires-in_default-clause-rules : goal.put_ctb-requires-in_default-clause-rules
-put_ctb-requires-in_default-clause-rules c = ((((ok (goal.at.put_ctb-requires-in_default-clause-rules c).After-p-1).rules, (ok (goal.at.put_ctb-requires-in_default-clause-rules c).After-p-1).block.ctb), ((ok (goal.at.put_ctb-requires-in_default-clause-rules c).After-p-1).deliverable.long, fits (goal.at.put_ctb-requires-in_default-clause-rules c).After-p-1 2 (is_two (goal.at.put_ctb-requires-in_default-clause-rules c).In_default)))).0
+put_ctb-requires-in_default-clause-rules c =
+    let here = goal.at.put_ctb-requires-in_default-clause-rules c in ((ok here.After-p-1).rules, (ok here.After-p-1).block.ctb)
 
 pub put_ctb-requires-in_default-clause-samples_len : goal.put_ctb-requires-in_default-clause-samples_len
-put_ctb-requires-in_default-clause-samples_len c = ((((ok (goal.at.put_ctb-requires-in_default-clause-samples_len c).After-p-1).rules, (ok (goal.at.put_ctb-requires-in_default-clause-samples_len c).After-p-1).block.ctb), ((ok (goal.at.put_ctb-requires-in_default-clause-samples_len c).After-p-1).deliverable.long, fits (goal.at.put_ctb-requires-in_default-clause-samples_len c).After-p-1 2 (is_two (goal.at.put_ctb-requires-in_default-clause-samples_len c).In_default)))).1
+put_ctb-requires-in_default-clause-samples_len c =
+    let here = goal.at.put_ctb-requires-in_default-clause-samples_len c in (ok here.After-p-1).deliverable.long
 
 pub put_ctb-requires-in_default-clause-plane_len : goal.put_ctb-requires-in_default-clause-plane_len
-put_ctb-requires-in_default-clause-plane_len c = ((((ok (goal.at.put_ctb-requires-in_default-clause-plane_len c).After-p-1).rules, (ok (goal.at.put_ctb-requires-in_default-clause-plane_len c).After-p-1).block.ctb), ((ok (goal.at.put_ctb-requires-in_default-clause-plane_len c).After-p-1).deliverable.long, fits (goal.at.put_ctb-requires-in_default-clause-plane_len c).After-p-1 2 (is_two (goal.at.put_ctb-requires-in_default-clause-plane_len c).In_default)))).2
+put_ctb-requires-in_default-clause-plane_len c =
+    let here = goal.at.put_ctb-requires-in_default-clause-plane_len c in fits here.After-p-1 2 (is_two here.In_default)

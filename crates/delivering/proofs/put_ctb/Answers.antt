@@ -4,5 +4,5 @@ use borrow.Author.Rules.{rules}
 use Rattle.delivering.proofs.put_ctb.Goals as goal
 
 pub put_block-requires-clause-placed : goal.put_block-requires-clause-placed
-put_block-requires-clause-placed c = (rw (c.plane_width-w.ensures.is, c.plane_height-h.ensures.is, c.ctb_rectangle.ensures)
-    (placed c.requires.rules.0 c.args.component c.requires.rules.1, c.requires.1)).0
+put_block-requires-clause-placed c =
+    rw (c.plane_width-w.ensures.is, c.plane_height-h.ensures.is, c.ctb_rectangle.ensures) (placed c.requires.rules.0 c.args.component c.requires.rules.1)

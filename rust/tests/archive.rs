@@ -1,51 +1,58 @@
 //! `tools/archive` as it is run, with a toolchain that only says what the real one says.
 
-mod folders;
+mod elsewhere;
 mod programs;
 
+use elsewhere::Elsewhere;
 use programs::{program, turn};
 use std::fs;
-use std::path::{Path, PathBuf};
+use std::path::Path;
 use std::process::Command;
 
 /// Three crates below `top`, and one beside it.
-const CRATES: &str = "# a list\nlow:\nleft: low\nright: low\nbeside: low\n\ntop: left right\n";
+const CRATES: &str = "# a list\nlow:\nleft: low\nright: low\nbeside: low\n\ntop staticlib: left right\n";
 
-/// The real one prints a line for each function, and a line for each crate. The first crate was proved before.
+/// In a crate's folder the real one prints a line for each function, and a line for the crate; nothing of a crate that is
+/// unchanged since it was proved, as the first one here.
 const TOOLCHAIN: &str = r#"case "$1" in
 version) echo "the kit" ;;
-check)
-  echo "rt: low proved (unchanged since it was last proved)"
-  echo "fn left::a: proved"
-  printf 'rt: left pro'
-  sleep 1.2
-  echo 'ved (12 s)'
-  echo "rt: right proved (7 s)" >&2
-  exit "${CHECK_ENDS:-0}"
-  ;;
-staticlib)
-  echo "rt: left proved (unchanged since it was last proved)"
-  mkdir -p target/staticlib
-  echo made >target/staticlib/lib"$2".a
-  echo "the archive is there"
-  exit "${STATICLIB_ENDS:-0}"
+lib)
+  shift
+  case $(basename "$PWD") in
+  low) ;;
+  left)
+    echo "fn left::a: proved"
+    printf 'logic=pro'
+    sleep 1.2
+    echo 'ved functions=1'
+    ;;
+  right)
+    echo "logic=proved functions=2" >&2
+    exit "${BELOW_ENDS:-0}"
+    ;;
+  top)
+    echo "logic=proved functions=3 $*"
+    mkdir -p out
+    echo made >out/libtop.a
+    exit "${TOP_ENDS:-0}"
+    ;;
+  *) exit 9 ;;
+  esac
   ;;
 esac"#;
 
 /// A project of the test's own with the real script in it.
-fn project(name: &str) -> PathBuf {
-    let project = folders::empty(&format!("archive-{name}"));
-    for folder in ["bin", "tools", "crates/low"] {
+fn project(name: &str) -> Elsewhere {
+    let project = elsewhere::empty(&format!("archive-{name}"));
+    let crates = ["low", "left", "right", "beside", "top"].map(|name| format!("crates/{name}"));
+    for folder in ["bin", "tools"].into_iter().chain(crates.iter().map(String::as_str)) {
         fs::create_dir_all(project.join(folder)).expect("a folder for the test");
     }
-    let tools = Path::new(env!("CARGO_MANIFEST_DIR")).join("../tools");
-    for tool in ["archive", "clang-for-arm"] {
-        fs::copy(tools.join(tool), project.join("tools").join(tool)).expect("the script");
-    }
+    let script = Path::new(env!("CARGO_MANIFEST_DIR")).join("../tools/archive");
+    fs::copy(script, project.join("tools/archive")).expect("the script");
     fs::write(project.join("crates.txt"), CRATES).expect("a list of crates");
     program(&project.join("bin/rt"), TOOLCHAIN);
-    // The archive of another machine is made with the real toolchain's compiler.
-    program(&project.join("bin/uname"), "echo x86_64");
+    program(&project.join("bin/uname"), "echo \"${MACHINE:-x86_64}\"");
     project
 }
 
@@ -82,11 +89,13 @@ fn a_line_for_each_crate_with_the_time_so_far() {
     ];
     assert_eq!(without_times(&said), expected);
     assert!(!said.contains(['\r', '\x1b']) && !said.contains(" 0:00  left"), "{said}");
-    let all = "rt: low proved (unchanged since it was last proved)\nfn left::a: proved\nrt: left proved (12 s)\n\
-               rt: right proved (7 s)\nrt: left proved (unchanged since it was last proved)\nthe archive is there\n";
+    let all = "fn left::a: proved\nlogic=proved functions=1\nlogic=proved functions=2\n\
+               logic=proved functions=3 --cpu x86-64\n";
     assert_eq!(log(&project), all);
-    // It is there, and nothing is said about it; a script beside does not make it an old one.
+    assert_eq!(fs::read_to_string(project.join("target/staticlib/libtop.a")).ok().as_deref(), Some("made\n"));
+    // It is there, and nothing is said about it; neither a script beside nor what rt keeps makes it an old one.
     fs::write(project.join("tools/another"), "").expect("another file");
+    fs::write(project.join("crates/top/out/kept"), "").expect("a file that is kept");
     assert_eq!(archive(&project, &[]), (Some(0), String::new()));
     fs::write(project.join("crates/low/new.rt"), "").expect("a changed crate");
     assert_eq!(without_times(&archive(&project, &[]).1), expected);
@@ -96,8 +105,8 @@ fn a_line_for_each_crate_with_the_time_so_far() {
 fn a_failure_is_not_lost() {
     let _turn = turn();
     for (name, variable, last) in [
-        ("check-fails", "CHECK_ENDS", "rt: right proved (7 s)"),
-        ("staticlib-fails", "STATICLIB_ENDS", "the archive is there"),
+        ("below-fails", "BELOW_ENDS", "logic=proved functions=2"),
+        ("top-fails", "TOP_ENDS", "logic=proved functions=3 --cpu x86-64"),
     ] {
         let project = project(name);
         let (status, said) = archive(&project, &[(variable, "3")]);
@@ -108,4 +117,17 @@ fn a_failure_is_not_lost() {
         // What failed is tried again.
         assert_eq!(archive(&project, &[]).0, Some(0));
     }
+}
+
+#[test]
+fn the_archive_is_of_the_machine() {
+    let _turn = turn();
+    let project = project("machines");
+    assert_eq!(archive(&project, &[("MACHINE", "aarch64")]).0, Some(0));
+    assert!(log(&project).ends_with("functions=3 --target aarch64-unknown-linux-gnu\n"), "{}", log(&project));
+    // Another machine's archive is not taken for this one's.
+    assert_eq!(archive(&project, &[]).0, Some(0));
+    assert!(log(&project).ends_with("functions=3 --cpu x86-64\n"), "{}", log(&project));
+    let sentence = "tools/archive: the archive is compiled for x86-64 and for aarch64, and this machine is riscv64\n";
+    assert_eq!(archive(&project, &[("MACHINE", "riscv64")]), (Some(1), sentence.into()));
 }

@@ -1,5 +1,6 @@
 //! The command as it is run: its lines, its sentences, its files and its exit status.
 
+mod elsewhere;
 mod folders;
 mod shell;
 
@@ -549,7 +550,7 @@ fn a_failure_leaves_the_files_as_they_were() {
 
 #[test]
 fn a_file_that_is_written_again_keeps_its_permissions() {
-    let folder = folder("permissions");
+    let folder = elsewhere::empty("permissions");
     let (private, long) = (file(&folder, "private.yuv", b"old"), path(&folder, &"n".repeat(255)));
     let mode = |name: &str| fs::metadata(name).expect("the output").permissions().mode() & 0o777;
     fs::set_permissions(&private, fs::Permissions::from_mode(0o600)).expect("a private file");

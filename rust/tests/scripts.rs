@@ -48,13 +48,18 @@ fn words_that_a_script_does_not_take_are_refused_at_once() {
     }
 }
 
-/// A project with this script in it, and tools that prove nothing: cargo notes which archive it is to link.
-fn stand_in(name: &str) -> (PathBuf, String) {
+/// What `rt ci` ends with where all is well.
+const WELL: &str =
+    "rt: ok; handles allowed: none; must-fail edits: 3 refused; every proof was done in this run\n1 passed, 0 failed";
+
+/// A project with this script in it, and tools that prove nothing: rt says what it is told to, and cargo notes which archive
+/// it is to link.
+fn stand_in(name: &str, said: &str) -> (PathBuf, String) {
     let folder = folders::empty(&format!("scripts-{name}"));
     fs::copy(Path::new(env!("CARGO_MANIFEST_DIR")).join("..").join(name), folder.join(name)).expect("the script");
     fs::create_dir(folder.join("tools")).expect("a folder for the tools");
     program(&folder.join("tools/archive"), "exit 0");
-    program(&folder.join("tools/rt"), "echo '1 passed, 0 failed'");
+    program(&folder.join("tools/rt"), &format!("echo '{said}'"));
     program(&folder.join("tools/cargo"), "echo \"archive: ${STEAMGUSSET_ARCHIVE_DIR-proved here}\" >&2");
     let path = format!("{}:{}", folder.join("tools").display(), std::env::var("PATH").expect("a search path"));
     (folder.join(name), path)
@@ -64,10 +69,34 @@ fn stand_in(name: &str) -> (PathBuf, String) {
 fn what_is_shown_and_tested_is_what_is_proved_here() {
     let _turn = turn();
     for (name, times) in [("run", 1), ("test", 3)] {
-        let (script, path) = stand_in(name);
+        let (script, path) = stand_in(name, WELL);
         let (_, _, said) = ran(Command::new(script).env("PATH", path).env("STEAMGUSSET_ARCHIVE_DIR", "/elsewhere"));
         let archives: Vec<&str> = said.lines().filter(|line| line.starts_with("archive: ")).collect();
         assert_eq!(archives, vec!["archive: proved here"; times], "{name}: {said}");
+    }
+}
+
+#[test]
+fn the_gate_counts_what_fails_and_what_could_not_be_tried() {
+    let _turn = turn();
+    let bad = WELL.replace("3 refused", "3 refused, 2 bad");
+    let by_a_limit = WELL.replace("3 refused", "3 refused, 1 of them only by a limit, 12 bad");
+    let lines = [
+        (WELL, "4 passed, 0 failed"),
+        (&bad, "4 passed, 2 failed"),
+        (&by_a_limit, "4 passed, 12 failed"),
+        ("rt: FAILED: low\n5 passed, 1 failed", "8 passed, 1 failed"),
+        ("rt: the disk is full", "3 passed, 1 failed"),
+        ("5 passed, 0 failed (low and the crates below alone: not the gate)", "3 passed, 1 failed"),
+    ];
+    for (said, closing) in lines {
+        let (script, path) = stand_in("test", said);
+        let (status, lines, _) = ran(Command::new(script).env("PATH", path));
+        assert_eq!(
+            (status, lines.lines().last()),
+            (Some(i32::from(!closing.ends_with(" 0 failed"))), Some(closing)),
+            "{said}"
+        );
     }
 }
 

@@ -64,7 +64,7 @@ fn deliver_answer(
     cr: &[u16],
     marks: &[u8],
 ) -> Answer
-    ensures { Judged (deliver_reasons state component ctb samples.now (record { y = y.entry.now; cb = cb.now; cr = cr.now }) marks.now) result }
+    ensures { Judged (deliver_reasons state component ctb samples.now (record { y = y.now; cb = cb.now; cr = cr.now }) marks.now) result }
 {
     let lent = Lent {
         deblocked: Planes::Lengths(y.len(), cb.len(), cr.len()),
@@ -108,7 +108,7 @@ pub fn deliver(
     cr: &mut [u16],
     marks: &mut [u8],
 ) -> Outcome
-    ensures { DeliverEnsures state component ctb samples.now (record { y = y.entry.now; cb = cb.old; cr = cr.old }) marks.old result (record { y = y.exit.now; cb = cb.new; cr = cr.new }) marks.new }
+    ensures { DeliverEnsures state component ctb samples.now (record { y = y.old; cb = cb.old; cr = cr.old }) marks.old result (record { y = y.new; cb = cb.new; cr = cr.new }) marks.new }
 {
     match deliver_answer(state, component, ctb, samples, y, cb, cr, marks) {
         Answer::Refused(r) => Outcome {

@@ -130,7 +130,7 @@ fn some_too_large(
 ) -> bool
     requires named { Named state.picture component ctb }
     requires planes_fit { PlanesFit state.picture (record { y = y.now; cb = cb.now; cr = cr.now }) }
-    ensures { Tells (ScannedTooLarge state component set ctb (plane_of (record { y = y.entry.now; cb = cb.now; cr = cr.now }) component)) result }
+    ensures { Tells (ScannedTooLarge state component set ctb (plane_of (record { y = y.now; cb = cb.now; cr = cr.now }) component)) result }
 {
     match component {
         0 => scanned_too_large(state, component, set, ctb, y),
@@ -173,7 +173,7 @@ fn set_answer(
 ) -> Ready
     requires named { Named state.picture component ctb }
     requires planes_fit { PlanesFit state.picture (record { y = y.now; cb = cb.now; cr = cr.now }) × TableFits state.picture table.now }
-    ensures { Readied (stored_reasons state component ctb (record { y = y.entry.now; cb = cb.now; cr = cr.now }) table.now) component ctb table.now result }
+    ensures { Readied (stored_reasons state component ctb (record { y = y.now; cb = cb.now; cr = cr.now }) table.now) component ctb table.now result }
 {
     let s = geometry::switches_in(state.picture);
     match sets::get_set(s, table, ctb as usize) {
@@ -202,7 +202,7 @@ fn filter_answer(
     marks: &[u8],
     table: &[u8],
 ) -> Ready
-    ensures { Readied (filter_reasons state component ctb (record { y = y.entry.now; cb = cb.now; cr = cr.now }) (record { y = out_y.now; cb = out_cb.now; cr = out_cr.now }) marks.now table.now) component ctb table.now result }
+    ensures { Readied (filter_reasons state component ctb (record { y = y.now; cb = cb.now; cr = cr.now }) (record { y = out_y.now; cb = out_cb.now; cr = out_cr.now }) marks.now table.now) component ctb table.now result }
 {
     let lent = Lent {
         deblocked: Planes::Lengths(y.len(), cb.len(), cr.len()),
@@ -265,7 +265,7 @@ pub fn filter(
     marks: &mut [u8],
     table: &[u8],
 ) -> Outcome
-    ensures { FilterEnsures state component ctb (record { y = y.entry.now; cb = cb.now; cr = cr.now }) (record { y = out_y.old; cb = out_cb.old; cr = out_cr.old }) marks.old table.now result (record { y = out_y.new; cb = out_cb.new; cr = out_cr.new }) marks.new }
+    ensures { FilterEnsures state component ctb (record { y = y.now; cb = cb.now; cr = cr.now }) (record { y = out_y.old; cb = out_cb.old; cr = out_cr.old }) marks.old table.now result (record { y = out_y.new; cb = out_cb.new; cr = out_cr.new }) marks.new }
 {
     match filter_answer(
         state, component, ctb, y, cb, cr, out_y, out_cb, out_cr, marks, table,

@@ -53,7 +53,7 @@ pub fn finished_count(
     cr: &[u16],
     marks: &[u8],
 ) -> RowsOutcome
-    ensures { RowsEnsures state component (record { y = y.entry.now; cb = cb.now; cr = cr.now }) marks.now result }
+    ensures { RowsEnsures state component (record { y = y.now; cb = cb.now; cr = cr.now }) marks.now result }
 {
     let lent = Lent {
         deblocked: Planes::NotLent,
@@ -85,7 +85,7 @@ fn leading_part<'a>(
     n: usize,
 ) -> &'a [u16]
     requires { Rules p × PlanesFit p (record { y = y.now; cb = cb.now; cr = cr.now }) × (component < components p) × (n ≤ plane_height p component) }
-    ensures { result.now ≡ take (n * plane_width p component) (plane_of (record { y = y.entry.now; cb = cb.now; cr = cr.now }) component) }
+    ensures { result.now ≡ take (n * plane_width p component) (plane_of (record { y = y.now; cb = cb.now; cr = cr.now }) component) }
 {
     let w = geometry::plane_width(p, component);
     let h = geometry::plane_height(p, component);
@@ -105,7 +105,7 @@ pub fn finished_rows<'a>(
     cr: &'a [u16],
     marks: &[u8],
 ) -> &'a [u16]
-    ensures { PartEnsures state component (record { y = y.entry.now; cb = cb.now; cr = cr.now }) marks.now result.now }
+    ensures { PartEnsures state component (record { y = y.now; cb = cb.now; cr = cr.now }) marks.now result.now }
 {
     let o = finished_count(state, component, y, cb, cr, marks);
     let a = o.answer;

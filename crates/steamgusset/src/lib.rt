@@ -216,7 +216,7 @@ pub extern "C" fn sg_deliver(
     cr: &mut [u16],
     marks: &mut [u8],
 ) -> u32
-    ensures { DeliverCrosses state.now component ctb samples.now (record { y = y.entry.now; cb = cb.old; cr = cr.old }) marks.old result (record { y = y.exit.now; cb = cb.new; cr = cr.new }) marks.new }
+    ensures { DeliverCrosses state.now component ctb samples.now (record { y = y.old; cb = cb.old; cr = cr.old }) marks.old result (record { y = y.new; cb = cb.new; cr = cr.new }) marks.new }
 {
     if !is_held(state) {
         return 1;
@@ -245,7 +245,7 @@ pub extern "C" fn sg_filter(
     marks: &mut [u8],
     table: &[u8],
 ) -> u32
-    ensures { FilterCrosses state.now component ctb (record { y = y.entry.now; cb = cb.now; cr = cr.now }) (record { y = out_y.old; cb = out_cb.old; cr = out_cr.old }) marks.old table.now result (record { y = out_y.new; cb = out_cb.new; cr = out_cr.new }) marks.new }
+    ensures { FilterCrosses state.now component ctb (record { y = y.now; cb = cb.now; cr = cr.now }) (record { y = out_y.old; cb = out_cb.old; cr = out_cr.old }) marks.old table.now result (record { y = out_y.new; cb = out_cb.new; cr = out_cr.new }) marks.new }
 {
     if !is_held(state) {
         return 1;
@@ -271,7 +271,7 @@ pub extern "C" fn sg_finished_rows(
     marks: &[u8],
     finished: &mut [usize; 2],
 ) -> u32
-    ensures { RowsCrosses state.now component (record { y = y.entry.now; cb = cb.now; cr = cr.now }) marks.now finished.old result finished.new }
+    ensures { RowsCrosses state.now component (record { y = y.now; cb = cb.now; cr = cr.now }) marks.now finished.old result finished.new }
 {
     if !is_held(state) {
         return 1;

@@ -13,25 +13,25 @@ use Rattle.standard.proofs.Granted.{MayDeliver, may_deliver}
 use Rattle.standard.proofs.Three.{plane_long, only_two, block_written}
 use borrow.Author.Rules.{rules}
 use Rattle.delivering.proofs.deliver.Goals as goal
-use Rattle.delivering.proofs.deliver.Goals.{After-mark_place-i, After-p-1, In_default}
+use Rattle.delivering.proofs.deliver.Goals.{After-mark_place-i, After-p-1}
 
-clear : (c : After-p-1) → Clear (let a = c.args in deliver_reasons a.state a.component a.ctb a.samples.now ((let a = c.args in record { y = a.y.now; cb = a.cb.now; cr = a.cr.now })) a.marks.now)
-clear c = subst (Judged (let a = c.args in deliver_reasons a.state a.component a.ctb a.samples.now ((let a = c.args in record { y = a.y.now; cb = a.cb.now; cr = a.cr.now })) a.marks.now)) c.in-Done.is c.deliver_answer.ensures
+clear : (c : After-p-1) → Clear (let a = c.args in deliver_reasons a.state a.component a.ctb a.samples.now ((record { y = c.args.y.now; cb = c.args.cb.now; cr = c.args.cr.now })) a.marks.now)
+clear c = subst (Judged (let a = c.args in deliver_reasons a.state a.component a.ctb a.samples.now ((record { y = c.args.y.now; cb = c.args.cb.now; cr = c.args.cr.now })) a.marks.now)) c.in-Done.is c.deliver_answer.ensures
 
-ok : (c : After-p-1) → let a = c.args in MayDeliver a.state a.component a.ctb a.samples.now (let a = c.args in record { y = a.y.now; cb = a.cb.now; cr = a.cr.now }) a.marks.now
-ok c = let a = c.args in may_deliver a.state a.component a.ctb a.samples.now (let a = c.args in record { y = a.y.now; cb = a.cb.now; cr = a.cr.now }) a.marks.now (clear c)
+ok : (c : After-p-1) → let a = c.args in MayDeliver a.state a.component a.ctb a.samples.now (record { y = c.args.y.now; cb = c.args.cb.now; cr = c.args.cr.now }) a.marks.now
+ok c = let a = c.args in may_deliver a.state a.component a.ctb a.samples.now (record { y = c.args.y.now; cb = c.args.cb.now; cr = c.args.cr.now }) a.marks.now (clear c)
 
 fits : (c : After-p-1) (j : ℕ) → c.args.component ≡ j → let a = c.args in
-    length (plane_of (let a = c.args in record { y = a.y.now; cb = a.cb.now; cr = a.cr.now }) j) ≡ plane_width a.state.picture a.component * plane_height a.state.picture a.component
+    length (plane_of (record { y = c.args.y.now; cb = c.args.cb.now; cr = c.args.cr.now }) j) ≡ plane_width a.state.picture a.component * plane_height a.state.picture a.component
 fits c j e =
-    ap (λ (n : ℕ). length (plane_of (let a = c.args in record { y = a.y.now; cb = a.cb.now; cr = a.cr.now }) n)) (sym e) ∙ plane_long c.args.component (ok c).deblocked_fits (ok c).block.component
+    ap (λ (n : ℕ). length (plane_of (record { y = c.args.y.now; cb = c.args.cb.now; cr = c.args.cr.now }) n)) (sym e) ∙ plane_long c.args.component (ok c).deblocked_fits (ok c).block.component
 
-is_two : (c : In_default) → c.args.component ≡ 2
-is_two c = only_two c.args.state.picture (ok c).block.component (search rules) (search rules)
+is_two : (c : After-p-1) → ¬ (c.args.component ≡ 0) → ¬ (c.args.component ≡ 1) → c.args.component ≡ 2
+is_two c = only_two c.args.state.picture (ok c).block.component
 
-marked-is : (c : After-mark_place-i) → let a = c.args in
+marked_is : (c : After-mark_place-i) → let a = c.args in
     set a.marks.now c.mark_place-i.result 1 ≡ marked a.state a.component a.ctb 1 a.marks.now
-marked-is c = ap (λ (n : ℕ). set c.args.marks.now n 1) c.mark_place-i.ensures
+marked_is c = ap (λ (n : ℕ). set c.args.marks.now n 1) c.mark_place-i.ensures
 
 pub mark_place-i-requires : goal.mark_place-i-requires
 mark_place-i-requires c = (ok (goal.at.mark_place-i-requires c).After-p-1).rules
@@ -40,19 +40,19 @@ pub returns-in-0 : goal.returns-in-0
 returns-in-0 c =
     let here = goal.at.returns-in-0 c in
     let L : Planes = let a = c.args in record { y = a.y.now; cb = a.cb.now; cr = a.cr.now } in
-    (clear here.After-p-1, (refl, block_written L 0 c.in-0.is (omega arith) c.put_ctb.ensures, marked-is here.After-mark_place-i))
+    (clear here.After-p-1, (refl, block_written L 0 c.in-0.is (omega arith) c.put_ctb.ensures, marked_is here.After-mark_place-i))
 
 pub returns-in-1 : goal.returns-in-1
 returns-in-1 c =
     let here = goal.at.returns-in-1 c in
     let L : Planes = let a = c.args in record { y = a.y.now; cb = a.cb.now; cr = a.cr.now } in
-    (clear here.After-p-1, (refl, block_written L 1 c.in-1.is (omega arith) c.put_ctb-in-1.ensures, marked-is here.After-mark_place-i))
+    (clear here.After-p-1, (refl, block_written L 1 c.in-1.is (omega arith) c.put_ctb-in-1.ensures, marked_is here.After-mark_place-i))
 
 pub returns-in_default : goal.returns-in_default
 returns-in_default c =
     let here = goal.at.returns-in_default c in
     let L : Planes = let a = c.args in record { y = a.y.now; cb = a.cb.now; cr = a.cr.now } in
-    (clear here.After-p-1, (refl, block_written L 2 (is_two here.In_default) (omega arith) c.put_ctb-in_default.ensures, marked-is here.After-mark_place-i))
+    (clear here.After-p-1, (refl, block_written L 2 (is_two here.After-p-1 (search rules) (search rules)) (omega arith) c.put_ctb-in_default.ensures, marked_is here.After-mark_place-i))
 
 pub put_ctb-requires-clause-rules : goal.put_ctb-requires-clause-rules
 put_ctb-requires-clause-rules c =
@@ -88,4 +88,4 @@ put_ctb-requires-in_default-clause-samples_len c =
 
 pub put_ctb-requires-in_default-clause-plane_len : goal.put_ctb-requires-in_default-clause-plane_len
 put_ctb-requires-in_default-clause-plane_len c =
-    let here = goal.at.put_ctb-requires-in_default-clause-plane_len c in fits here.After-p-1 2 (is_two here.In_default)
+    let here = goal.at.put_ctb-requires-in_default-clause-plane_len c in fits here.After-p-1 2 (is_two here.After-p-1 (search rules) (search rules))

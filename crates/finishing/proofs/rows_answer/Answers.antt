@@ -21,11 +21,14 @@ above c =
     (rest_tells a.marks.now c.mark_place-from.result c.ctu_count-n.result c.some_of_many.result c.leading_of_many-filtered.ensures c.some_of_many.ensures)
 
 pub returns-then-some_of_many : goal.returns-then-some_of_many
-returns-then-some_of_many c = inr (there (goal.at.returns-then-some_of_many c).Else-no_such_component, inl (told (above (goal.at.returns-then-some_of_many c).After-some_of_many) c.if-some_of_many.true, refl))
+returns-then-some_of_many c =
+    let here = goal.at.returns-then-some_of_many c in
+    inr (there here.Else-no_such_component, inl (told (above here.After-some_of_many) c.if-some_of_many.true, refl))
 
 pub returns : goal.returns
 returns c =
+    let here = goal.at.returns c in
     let a = c.args in (
-      (there (goal.at.returns c).Else-no_such_component, (told_not (above (goal.at.returns c).After-some_of_many) c.if-some_of_many.false, tt)),
+      (there here.Else-no_such_component, (told_not (above here.After-some_of_many) c.if-some_of_many.false, tt)),
       finished a.state a.component a.marks.now c.mark_place-from.ensures c.leading_of_many-filtered.ensures c.requires.0 c.ctu_count-n.ensures.is c.sample_rows.ensures,
     )

@@ -1,4 +1,5 @@
 -- The form of the bins gives the answer, arm by arm; the neighbours' entries lie in the table.
+use borrow.Author.Rules.{rules}
 use mathlib.Core.Option.{Option}
 use mathlib.Core.Path.{◌≡◌, sym, subst, subst₂}
 use Prim.Native.Nat.{ℕ}
@@ -22,33 +23,33 @@ left_is c = c.merge_left-left.ensures
 up_is : (c : After-merge_up-up) → near_of c.merge_up-up.result ≡ merge_up c.args.state
 up_is c = c.merge_up-up.ensures
 
-near-in-table : (c : After-merge_up-up) → Entries c
-near-in-table c = record {
-  left = subst (InTable c.args.table.now) (sym (left_is c)) (left_in_table c.requires.0);
-  up = subst (InTable c.args.table.now) (sym (up_is c)) (up_in_table c.requires.0);
-}
-
-abbrev Here : After-read_form-form → Form → Type 0
-Here c f = let a = (t c).args in Formed a.state a.bytes.now a.count a.table.now f
+-- either neighbour's entry lies in the table
+near_in_table : (c : After-merge_up-up) → InTable c.args.table.now (near_of c.merge_left-left.result) × InTable c.args.table.now (near_of c.merge_up-up.result)
+near_in_table c = (
+  subst (InTable c.args.table.now) (sym (left_is c)) (left_in_table c.requires.0),
+  subst (InTable c.args.table.now) (sym (up_is c)) (up_in_table c.requires.0),
+)
 
 -- read and copied by the switches of the CTU that is due
-by-switches : (c : After-read_form-form) → c.switches_of-s.result ≡ switches_of c.args.state
-by-switches c = c.switches_of-s.ensures
+by_switches : (c : After-read_form-form) → c.switches_of-s.result ≡ switches_of c.args.state
+by_switches c = c.switches_of-s.ensures
 
-form : (c : After-read_form-form) (f : Form) → c.read_form-form.result ≡ f → Here c f
+form : (c : After-read_form-form) (f : Form) → c.read_form-form.result ≡ f
+    → let a = c.args in
+    Formed a.state a.bytes.now a.count a.table.now f
 form c f e =
     let a = c.args in
-    subst (Here c) e
+    subst (Formed a.state a.bytes.now a.count a.table.now) e
     (formed a.state a.bytes.now a.count a.table.now c.read_form-form.result
-    (subst (λ (w : Switches). ReadAs w c.is_there.result c.is_there-2.result (bins_of a.bytes.now a.count) c.read_form-form.result) (by-switches c) c.read_form-form.ensures)
-    (subst (λ (o : Option ℕ). There o c.is_there.result) (left_is c) c.is_there.ensures)
-    (subst (λ (o : Option ℕ). There o c.is_there-2.result) (up_is c) c.is_there-2.ensures))
+    (subst (λ (w : Switches). ReadAs w c.is_there.result c.is_there-2.result (bins_of a.bytes.now a.count) c.read_form-form.result) (by_switches c) c.read_form-form.ensures)
+    (subst (λ (o : Option ℕ). There o c.is_there.result) c.merge_left-left.ensures c.is_there.ensures)
+    (subst (λ (o : Option ℕ). There o c.is_there-2.result) c.merge_up-up.ensures c.is_there-2.ensures))
 
 pub copied-requires : goal.copied-requires
-copied-requires c = search (near-in-table (goal.at.copied-requires c).After-merge_up-up)
+copied-requires c = search (rules, near_in_table (goal.at.copied-requires c).After-merge_up-up)
 
 pub copied-requires-in-Up : goal.copied-requires-in-Up
-copied-requires-in-Up c = search (near-in-table (goal.at.copied-requires-in-Up c).After-merge_up-up)
+copied-requires-in-Up c = search (rules, near_in_table (goal.at.copied-requires-in-Up c).After-merge_up-up)
 
 pub returns-in-TooEarly : goal.returns-in-TooEarly
 returns-in-TooEarly c =
@@ -62,15 +63,17 @@ returns-in-BinsRemain c =
 
 pub returns-in-Left : goal.returns-in-Left
 returns-in-Left c =
+    let here = goal.at.returns-in-Left c in
     let a = c.args in
-    answer_left a.state a.bytes.now a.count a.table.now (form (goal.at.returns-in-Left c).After-read_form-form _ c.in-Left.is) c.copied.result
-    (subst₂ (λ (w : Switches) (o : Option ℕ). Copied w a.table.now o c.copied.result) (by-switches (goal.at.returns-in-Left c).After-read_form-form) (left_is (goal.at.returns-in-Left c).After-merge_up-up) c.copied.ensures)
+    answer_left a.state a.bytes.now a.count a.table.now (form here.After-read_form-form _ c.in-Left.is) c.copied.result
+    (subst₂ (λ (w : Switches) (o : Option ℕ). Copied w a.table.now o c.copied.result) (by_switches here.After-read_form-form) (left_is here.After-merge_up-up) c.copied.ensures)
 
 pub returns-in-Up : goal.returns-in-Up
 returns-in-Up c =
+    let here = goal.at.returns-in-Up c in
     let a = c.args in
-    answer_up a.state a.bytes.now a.count a.table.now (form (goal.at.returns-in-Up c).After-read_form-form _ c.in-Up.is) c.copied-in-Up.result
-    (subst₂ (λ (w : Switches) (o : Option ℕ). Copied w a.table.now o c.copied-in-Up.result) (by-switches (goal.at.returns-in-Up c).After-read_form-form) (up_is (goal.at.returns-in-Up c).After-merge_up-up) c.copied-in-Up.ensures)
+    answer_up a.state a.bytes.now a.count a.table.now (form here.After-read_form-form _ c.in-Up.is) c.copied-in-Up.result
+    (subst₂ (λ (w : Switches) (o : Option ℕ). Copied w a.table.now o c.copied-in-Up.result) (by_switches here.After-read_form-form) (up_is here.After-merge_up-up) c.copied-in-Up.ensures)
 
 pub returns-in-Full : goal.returns-in-Full
 returns-in-Full c =

@@ -24,7 +24,7 @@ use Rattle.standard.proofs.Decisions.{differ, Verdict, refusal, clear}
 use Rattle.standard.proofs.Numbers.{number_of_injective, first_unique, first_not_clear}
 use Rattle.standard.proofs.Refusing.{rows_verdict}
 use Rattle.standard.proofs.Finished.{rows_unique}
-use Rattle.promises.specs.World.{World, Answer, refused, Result}
+use Rattle.promises.specs.World.{World, Result}
 use Rattle.promises.specs.Ties.{answered, set_answered, bins_answered, after_open, after_deliver, after_filter, after_read, after_write}
 use Rattle.promises.proofs.Finishing.{rows_finished}
 use Rattle.promises.proofs.Unique.{unique}

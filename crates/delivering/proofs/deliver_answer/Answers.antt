@@ -8,7 +8,6 @@ use Rattle.standard.specs.Ensures.{Judged}
 use Rattle.standard.proofs.Parts.{first_front, judged_back}
 use Rattle.standard.proofs.Called.{block_called}
 use Rattle.lent.proofs.Lengths.{planes_fit, planes_right, PlanesAndMarks, planes_and_marks?, begun}
-use borrow.Author.Rules.{rules}
 use Rattle.delivering.proofs.deliver_answer.Goals as goal
 use Rattle.delivering.proofs.deliver_answer.Goals.{After-block_answer}
 

@@ -1,6 +1,5 @@
 -- Width, height and rectangle are those of the CTB, and the block lies in its plane.
 use Rattle.delivering.proofs.Blocks.{placed}
-use borrow.Author.Rules.{rules}
 use Rattle.delivering.proofs.put_ctb.Goals as goal
 
 pub put_block-requires-clause-placed : goal.put_block-requires-clause-placed

@@ -1,5 +1,4 @@
 -- Above 2 ^ depth - 1 is not below 2 ^ depth, which is not 0.
-use Prim.Native.Nat.{◌-◌}
 use Rattle.standard.proofs.Depths.{depth_at_most_16}
 use Rattle.delivering.proofs.sample_too_large.Goals as goal
 

@@ -11,7 +11,6 @@ use Rattle.standard.proofs.Refusing.{all_fit?}
 use Rattle.lent.proofs.Lengths.{planes_fit, planes_right, begun}
 use Rattle.filtering.specs.Filtering.{Named}
 use Rattle.filtering.proofs.Judging.{readied_after}
-use borrow.Author.Rules.{rules}
 use Rattle.filtering.proofs.filter_answer.Goals as goal
 use Rattle.filtering.proofs.filter_answer.Goals.{After-block_answer}
 

@@ -3,7 +3,6 @@ use Rattle.standard.specs.Samples.{layout_of, context_of}
 use Rattle.standard.specs.Table.{parameters_in}
 use Rattle.samples.specs.Around.{Agrees}
 use Rattle.filtering.proofs.Filtering.{block_ready}
-use borrow.Author.Rules.{rules}
 use Rattle.filtering.proofs.filter_ctb.Goals as goal
 use Rattle.filtering.proofs.filter_ctb.Goals.{After-ctb_rectangle-block}
 

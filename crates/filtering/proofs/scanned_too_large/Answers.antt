@@ -12,7 +12,6 @@ use Rattle.standard.proofs.Seeing.{scans_grown, grown_scans}
 use Rattle.planes.specs.Places.{Placed}
 use Rattle.planes.specs.Scans.{BlockAbove}
 use Rattle.filtering.proofs.Planes.{grown_placed}
-use borrow.Author.Rules.{rules}
 use Rattle.filtering.proofs.scanned_too_large.Goals as goal
 use Rattle.filtering.proofs.scanned_too_large.Goals.{After-grown_rectangle-g, After-top_of-top}
 

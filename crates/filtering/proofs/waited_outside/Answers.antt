@@ -2,7 +2,6 @@
 use Rattle.standard.proofs.Answers.{tell_same}
 use Rattle.geometry.proofs.Marks.{marks_le}
 use Rattle.filtering.proofs.Marks.{around_placed, marks_waited, waited_marks}
-use borrow.Author.Rules.{rules}
 use Rattle.filtering.proofs.waited_outside.Goals as goal
 
 pub mark_outside-requires : goal.mark_outside-requires

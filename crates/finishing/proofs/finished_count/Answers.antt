@@ -14,7 +14,6 @@ use Rattle.lent.specs.declared.Planes.TheVariants as planes
 use Rattle.lent.specs.declared.Bytes.TheVariants as bytes
 use Rattle.lent.specs.Lengths.{LentRight}
 use Rattle.lent.proofs.Lengths.{planes_fit, planes_right, PlanesAndMarks, planes_and_marks?}
-use borrow.Author.Rules.{rules}
 use Rattle.finishing.proofs.Finishing.{rows_back}
 use Rattle.finishing.proofs.finished_count.Goals as goal
 use Rattle.finishing.proofs.finished_count.Goals.{After-call_answer}

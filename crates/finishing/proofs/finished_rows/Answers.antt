@@ -3,7 +3,6 @@ use mathlib.Core.List.{List}
 use mathlib.Core.Path.{subst}
 use Prim.Native.Nat.{ℕ}
 use Rattle.standard.specs.declared.State.{State}
-use borrow.Author.Rules.{rules}
 use Rattle.standard.specs.declared.RowsAnswer.{RowsAnswer}
 use Rattle.standard.specs.declared.RowsAnswer.TheVariants as rows
 use Rattle.standard.specs.Reasons.{Planes, rows_reasons}

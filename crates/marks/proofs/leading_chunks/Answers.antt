@@ -1,5 +1,4 @@
 -- No mark of the chunks passed is outside.
-use Prim.Native.Nat.{◌-◌}
 use native.Mathlib.Omega.{arith}
 use Rattle.standard.proofs.Answers.{told_not}
 use Rattle.marks.proofs.Marks.{not_next}

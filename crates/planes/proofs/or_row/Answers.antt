@@ -1,5 +1,4 @@
 -- The samples passed so far, ORed together.
-use Prim.Native.Nat.{◌-◌}
 use native.Mathlib.Omega.{arith}
 use Rattle.planes.proofs.Scans.{none_together, one_together}
 use Rattle.planes.proofs.or_row.Goals as goal

@@ -1,5 +1,4 @@
 -- The columns passed so far of two rows, ORed together.
-use Prim.Native.Nat.{◌-◌}
 use native.Mathlib.Omega.{arith}
 use Rattle.planes.proofs.Scans.{none_together, one_together}
 use Rattle.planes.proofs.or_rows.Goals as goal

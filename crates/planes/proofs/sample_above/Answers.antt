@@ -1,5 +1,4 @@
 -- Where the OR is not above the top no sample is; elsewhere none before the one looked at is.
-use Prim.Native.Nat.{◌-◌}
 use native.Mathlib.Omega.{arith}
 use lib.ListN.{length, get_or}
 use Rattle.planes.proofs.Scans.{none_above}

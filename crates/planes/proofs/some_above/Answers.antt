@@ -1,6 +1,5 @@
 -- No sample of the rows passed is above the top, nor one of this row before the column looked at: so the scan is left at the first that is.
-use mathlib.Core.Bool.{false}
-use Prim.Native.Nat.{ℕ, ◌-◌, ◌≤◌, ◌<◌}
+use Prim.Native.Nat.{ℕ, ◌≤◌, ◌<◌}
 use native.Mathlib.Omega.{arith}
 use borrow.Author.Count.{below_more}
 use Rattle.standard.specs.Samples.{at}

@@ -1,9 +1,8 @@
 -- Each arm of the match writes the samples of its rule: a copy, by band, or by the two steps of its class. Under every context that the answers agree with these are the standard's.
-use borrow.Author.Rules.{rules}
 use mathlib.Core.Path.{◌≡◌, ap, ◌∙◌, subst}
 use Prim.Native.Nat.{◌<◌}
 use native.Mathlib.Omega.{arith}
-use borrow.Author.Rules.{rules, sfits_of}
+use borrow.Author.Rules.{sfits_of}
 use lib.Dec.{lit<}
 use mir.Syntax.{w8}
 use Rattle.standard.specs.Samples.{steps_of}

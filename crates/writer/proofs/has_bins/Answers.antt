@@ -1,6 +1,5 @@
 -- Each test gives one of the cases in which a set has bins, or rules it out.
 use mathlib.Core.Path.{sym, ◌∙◌}
-use borrow.Author.Tests.{not-false}
 use Rattle.standard.proofs.Answers.{told, told_not}
 use Rattle.writer.specs.Forms.{beside_of}
 use Rattle.writer.proofs.Chosen.{as_left, ruled, has_meant, meant_by_up}

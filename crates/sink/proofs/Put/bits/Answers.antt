@@ -1,5 +1,5 @@
 -- The high bits of the number are put so far, and each round puts the next of them.
-use Prim.Native.Nat.{◌-◌, ◌/◌, ◌^◌}
+use Prim.Native.Nat.{◌/◌, ◌^◌}
 use native.Mathlib.Omega.{arith}
 use Rattle.sink.proofs.Loop.{none, one_part, room_part}
 use Rattle.sink.proofs.Put.bits.Goals as goal

@@ -36,9 +36,11 @@ ghost use Rattle.samples.specs.Around.{NoMore};
 ghost use Rattle.samples.specs.Blocks.{Legal};
 ghost use Rattle.blocks.specs.Sound.{Sound};
 
-use records::{pair, print_word, wide};
+use records::{pair, print_word, read_full, wide};
 use samples::Around;
 use standard::{Layout, Offsets, Rectangle};
+use std::io;
+use std::io::Read;
 
 // The largest plane: a block of 64x64, a sample around it, and as much again, so that the block can
 // lie anywhere in it. Any width and height will do whose product is no larger.
@@ -276,75 +278,82 @@ fn second_sum(plane: &[u16]) -> u32 {
     v
 }
 
-fn print_samples(plane: &[u16]) {
+fn print_samples(rt: &impl Print, plane: &[u16]) -> io::Result<()> {
     let mut i: usize = 0;
     while i < plane.len() {
-        io::write_all(1, b" ");
-        io::print_decimal(1, number(plane[i]) as u64);
+        print!(rt; " {}", number(plane[i]))?;
         i += 1;
     }
+    Ok(())
 }
 
-fn print(plane: &[u16], in_full: bool) {
-    io::print_hex(1, sum(plane) as u64, 8);
-    io::write_all(1, b" ");
-    io::print_hex(1, second_sum(plane) as u64, 8);
+fn print(rt: &impl Print, plane: &[u16], in_full: bool) -> io::Result<()> {
+    print!(rt; "{:08x} {:08x}", sum(plane), second_sum(plane))?;
     if in_full {
-        print_samples(plane);
+        print_samples(rt, plane)?;
     }
-    io::write_all(1, b"\n");
+    rt.write_all(b"\n")
 }
 
 // ---- record after record
 
 // Filters the record's block in planes of its size, and prints what became of it.
-fn filter_and_print(record: &[u8; 24], plane: &mut [u16], out: &mut [u16]) {
+fn filter_and_print(
+    rt: &impl Print,
+    record: &[u8; 24],
+    plane: &mut [u16],
+    out: &mut [u16],
+) -> io::Result<()> {
     let l = layout_of(record);
     let set = set_of(record);
     let r = block_of(record);
     if !is_sound(l, set, r) {
-        print_word(b"no block");
-        return;
+        return print_word(rt, b"no block");
     }
     fill(record, planes::top_of(l.depth), plane);
     let is_filtered = filter(l, set, record[15], r, plane, out);
     if is_filtered {
-        print(out, record[14] != 0);
+        print(rt, out, record[14] != 0)
     } else {
-        print_word(b"no plane");
+        print_word(rt, b"no plane")
     }
 }
 
-fn answer(record: &[u8; 24], plane: &mut [u16], out: &mut [u16]) {
+fn answer(
+    rt: &impl Print,
+    record: &[u8; 24],
+    plane: &mut [u16],
+    out: &mut [u16],
+) -> io::Result<()> {
     let n = area(wide(record[0]), wide(record[1]));
     if n > plane.len() {
-        print_word(b"no room");
-        return;
+        return print_word(rt, b"no room");
     }
     if n > out.len() {
-        print_word(b"no room");
-        return;
+        return print_word(rt, b"no room");
     }
-    filter_and_print(record, &mut plane[..n], &mut out[..n]);
+    filter_and_print(rt, record, &mut plane[..n], &mut out[..n])
 }
 
 // Answers one record, and says whether there was one.
-fn turn() -> bool {
+fn turn(rt: &impl Print, input: &mut impl Read) -> io::Result<bool> {
     let mut record = [0u8; 24];
-    if io::read_full(0, &mut record) < 24 {
-        return false;
+    if read_full(input, &mut record)? < 24 {
+        return Ok(false);
     }
     let mut plane = [0u16; PLANE];
     let mut out = [65535u16; PLANE];
-    answer(&record, &mut plane, &mut out);
-    true
+    answer(rt, &record, &mut plane, &mut out)?;
+    Ok(true)
 }
 
 // A proved loop has to end, and nothing says that the input does: so the turns are counted down, from
 // a number that no run uses up.
-fn main() {
+fn main(rt: HostRuntime) -> io::Result<()> {
+    let mut input = rt.stdin();
     let mut turns = u64::MAX;
-    while turns > 0 && turn() {
+    while turns > 0 && turn(&rt, &mut input)? {
         turns -= 1;
     }
+    Ok(())
 }

@@ -21,8 +21,10 @@
 
 ghost use Rattle.std.specs.Prelude.{◌<◌};
 
-use records::{pair, print_word, wide};
+use records::{pair, print_word, read_full, wide};
 use standard::{BitDepths, CtuSet, Picture, SET_BYTES, State, Switches};
+use std::io;
+use std::io::Read;
 use writer::Beside;
 
 // A neighbour as the record has it: its set or none, or an entry that is no set within the rules.
@@ -35,19 +37,20 @@ enum Neighbour {
 // ---- what is printed
 
 // Each byte as two hexadecimal digits.
-fn print_bytes(bytes: &[u8]) {
+fn print_bytes(rt: &impl Print, bytes: &[u8]) -> io::Result<()> {
     let mut i: usize = 0;
     while i < bytes.len() {
-        io::print_hex(1, wide(bytes[i]) as u64, 2);
+        print!(rt; "{:02x}", wide(bytes[i]))?;
         i += 1;
     }
+    Ok(())
 }
 
-fn print_set(q: CtuSet) {
+fn print_set(rt: &impl Print, q: CtuSet) -> io::Result<()> {
     let mut bytes = [0u8; SET_BYTES];
     sets::say_set(&mut bytes, q);
-    print_bytes(&bytes);
-    io::write_all(1, b"\n");
+    print_bytes(rt, &bytes)?;
+    rt.write_all(b"\n")
 }
 
 // ---- what a record says
@@ -98,79 +101,100 @@ fn is_there(n: Beside) -> bool {
 
 // The set that a merge copies. Bins merge only with a neighbour that is there: the other arm is never
 // reached.
-fn print_copied(n: Beside) {
+fn print_copied(rt: &impl Print, n: Beside) -> io::Result<()> {
     match n {
-        Beside::Nothing => print_word(b"no neighbour"),
-        Beside::Set(q) => print_set(q),
+        Beside::Nothing => print_word(rt, b"no neighbour"),
+        Beside::Set(q) => print_set(rt, q),
     }
 }
 
 // The bytes of the set, or what is wrong with the bins.
-fn read(s: Switches, left: Beside, up: Beside, bytes: &[u8], count: usize)
+fn read(
+    rt: &impl Print,
+    s: Switches,
+    left: Beside,
+    up: Beside,
+    bytes: &[u8],
+    count: usize,
+) -> io::Result<()>
     requires { count < 65536 }
 {
     if (count + 7) / 8 > bytes.len() {
-        print_word(b"count");
-        return;
+        return print_word(rt, b"count");
     }
     match bins::read_form(s, is_there(left), is_there(up), bytes, count) {
-        bins::Form::Left => print_copied(left),
-        bins::Form::Up => print_copied(up),
-        bins::Form::Full(q) => print_set(q),
-        bins::Form::TooEarly => print_word(b"early"),
-        bins::Form::BinsRemain => print_word(b"remain"),
+        bins::Form::Left => print_copied(rt, left),
+        bins::Form::Up => print_copied(rt, up),
+        bins::Form::Full(q) => print_set(rt, q),
+        bins::Form::TooEarly => print_word(rt, b"early"),
+        bins::Form::BinsRemain => print_word(rt, b"remain"),
     }
 }
 
 // The number of bins, or that there is no room for them; then all bytes that were lent.
-fn write(s: Switches, left: Beside, up: Beside, q: CtuSet, room: &mut [u8]) {
+fn write(
+    rt: &impl Print,
+    s: Switches,
+    left: Beside,
+    up: Beside,
+    q: CtuSet,
+    room: &mut [u8],
+) -> io::Result<()> {
     match writer::write_set(s, left, up, q, room) {
-        writer::Wrote::Bins(n) => {
-            io::print_decimal(1, n as u64);
-        }
-        writer::Wrote::NoRoom => {
-            io::write_all(1, b"no room");
-        }
+        writer::Wrote::Bins(n) => print!(rt; "{n}")?,
+        writer::Wrote::NoRoom => rt.write_all(b"no room")?,
     }
-    io::write_all(1, b":");
-    print_bytes(room);
-    io::write_all(1, b"\n");
+    rt.write_all(b":")?;
+    print_bytes(rt, room)?;
+    rt.write_all(b"\n")
 }
 
-fn write_if_a_set(s: Switches, left: Beside, up: Beside, head: &[u8; 72], room: &mut [u8]) {
+fn write_if_a_set(
+    rt: &impl Print,
+    s: Switches,
+    left: Beside,
+    up: Beside,
+    head: &[u8; 72],
+    room: &mut [u8],
+) -> io::Result<()> {
     match sets::get_set(s, head, 2) {
-        sets::Found::Set(q) => write(s, left, up, q, room),
-        sets::Found::Bad => print_word(b"set"),
+        sets::Found::Set(q) => write(rt, s, left, up, q, room),
+        sets::Found::Bad => print_word(rt, b"set"),
     }
 }
 
 // Reads or writes, as the record says.
-fn call(s: Switches, left: Beside, up: Beside, head: &[u8; 72], body: &mut [u8]) {
+fn call(
+    rt: &impl Print,
+    s: Switches,
+    left: Beside,
+    up: Beside,
+    head: &[u8; 72],
+    body: &mut [u8],
+) -> io::Result<()> {
     let count = pair(head[68], head[69]) as usize;
     let lent = wide(head[70]);
     if lent > body.len() {
-        print_word(b"length");
-        return;
+        return print_word(rt, b"length");
     }
     if head[56] == 0 {
-        read(s, left, up, &body[..lent], count);
+        read(rt, s, left, up, &body[..lent], count)
     } else {
-        write_if_a_set(s, left, up, head, &mut body[..lent]);
+        write_if_a_set(rt, s, left, up, head, &mut body[..lent])
     }
 }
 
-fn answer(head: &[u8; 72], body: &mut [u8]) {
+fn answer(rt: &impl Print, head: &[u8; 72], body: &mut [u8]) -> io::Result<()> {
     let picture = picture_of(head);
     if !geometry::is_described(picture) {
-        print_word(b"description");
-        return;
+        return print_word(rt, b"description");
     }
     let s = geometry::switches_of(State { picture, next: 0 });
     match neighbour_at(s, head, head[54], 0) {
-        Neighbour::Bad => print_word(b"neighbour"),
+        Neighbour::Bad => print_word(rt, b"neighbour"),
         Neighbour::Sound(left) => match neighbour_at(s, head, head[55], 1) {
-            Neighbour::Bad => print_word(b"neighbour"),
-            Neighbour::Sound(up) => call(s, left, up, head, body),
+            Neighbour::Bad => print_word(rt, b"neighbour"),
+            Neighbour::Sound(up) => call(rt, s, left, up, head, body),
         },
     }
 }
@@ -178,24 +202,26 @@ fn answer(head: &[u8; 72], body: &mut [u8]) {
 // ---- record after record
 
 // Answers one record, and says whether there was one.
-fn turn() -> bool {
+fn turn(rt: &impl Print, input: &mut impl Read) -> io::Result<bool> {
     let mut head = [0u8; 72];
-    if io::read_full(0, &mut head) < 72 {
-        return false;
+    if read_full(input, &mut head)? < 72 {
+        return Ok(false);
     }
     let mut body = [0u8; 56];
-    if io::read_full(0, &mut body) < 56 {
-        return false;
+    if read_full(input, &mut body)? < 56 {
+        return Ok(false);
     }
-    answer(&head, &mut body);
-    true
+    answer(rt, &head, &mut body)?;
+    Ok(true)
 }
 
 // A proved loop has to end, and nothing says that the input does: so the turns are counted down, from
 // a number that no run uses up.
-fn main() {
+fn main(rt: HostRuntime) -> io::Result<()> {
+    let mut input = rt.stdin();
     let mut turns = u64::MAX;
-    while turns > 0 && turn() {
+    while turns > 0 && turn(&rt, &mut input)? {
         turns -= 1;
     }
+    Ok(())
 }

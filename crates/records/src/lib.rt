@@ -1,8 +1,12 @@
-// What the programs that answer records share: numbers of one and of two bytes, and a line that has
-// one word.
+// What the programs that answer records share: numbers of one and of two bytes, bytes that are read in
+// full, and a line that has one word.
 #![tactic(auto)]
 
-ghost use Rattle.std.specs.Prelude.{◌≡◌, ◌+◌, ◌*◌, ◌<◌};
+ghost use Rattle.std.specs.Prelude.{◌≡◌, ◌+◌, ◌*◌, ◌<◌, ◌≤◌, IfOk, length, take};
+ghost use Rattle.std.specs.Io.KnownBytes.{Consumes, IsAtEnd};
+
+use std::io;
+use std::io::Read;
 
 pub fn wide(b: u8) -> usize
     ensures { (result ≡ b) × (result < 256) }
@@ -16,7 +20,25 @@ pub fn pair(low: u8, high: u8) -> u32
     low as u32 + 256 * (high as u32)
 }
 
-pub fn print_word(word: &[u8]) {
-    io::write_all(1, word);
-    io::write_all(1, b"\n");
+// Reads until buf is full or the input ends, and answers how many bytes it put at the start of buf.
+pub fn read_full<R: Read>(input: &mut R, buf: &mut [u8]) -> io::Result<usize>
+    ensures fits { IfOk result (λ n. n ≤ length buf.new) }
+    ensures bytes { IfOk result (λ n. Consumes (R.remaining input.old) (R.remaining input.new)
+        (take n buf.new)) }
+    ensures end { IfOk result (λ n. n < length buf.new → IsAtEnd (R.remaining input.new)) }
+{
+    let mut done: usize = 0;
+    while done < buf.len() {
+        let n = input.read(&mut buf[done..])?;
+        if n == 0 {
+            break;
+        }
+        done += n;
+    }
+    Ok(done)
+}
+
+pub fn print_word(rt: &impl Print, word: &[u8]) -> io::Result<()> {
+    rt.write_all(word)?;
+    rt.write_all(b"\n")
 }

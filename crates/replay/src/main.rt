@@ -36,10 +36,13 @@
 
 ghost use Rattle.std.specs.Prelude.{◌≤◌};
 
+use records::read_full;
 use standard::{
     Answer, BitDepths, CtuSet, Picture, ReadAnswer, Refusal, RowsAnswer, SET_BYTES, State,
     WriteAnswer,
 };
+use std::io;
+use std::io::Read;
 
 // How long the buffers are. They hold a picture of any format: each plane 128x128 samples, marks and
 // table 64 CTUs in three components with entries of up to 32 bytes, and a delivery a CTB of 64x64. A
@@ -189,83 +192,82 @@ fn sum_of_state(state: State) -> u32 {
 
 // ---- what is printed
 
-fn print_number(n: usize) {
-    io::write_all(1, b" ");
-    io::print_decimal(1, n as u64);
+fn print_number(rt: &impl Print, n: usize) -> io::Result<()> {
+    print!(rt; " {n}")
 }
 
-fn print_sum(sum: u32) {
-    io::write_all(1, b" ");
-    io::print_hex(1, sum as u64, 8);
+fn print_sum(rt: &impl Print, sum: u32) -> io::Result<()> {
+    print!(rt; " {sum:08x}")
 }
 
 // Each byte as two hexadecimal digits.
-fn print_bytes(bytes: &[u8]) {
+fn print_bytes(rt: &impl Print, bytes: &[u8]) -> io::Result<()> {
     let mut i: usize = 0;
     while i < bytes.len() {
-        io::print_hex(1, records::wide(bytes[i]) as u64, 2);
+        print!(rt; "{:02x}", records::wide(bytes[i]))?;
         i += 1;
     }
+    Ok(())
 }
 
-fn print_set(q: CtuSet) {
+fn print_set(rt: &impl Print, q: CtuSet) -> io::Result<()> {
     let mut set = [0u8; SET_BYTES];
     sets::say_set(&mut set, q);
-    io::write_all(1, b" ");
-    print_bytes(&set);
+    rt.write_all(b" ")?;
+    print_bytes(rt, &set)
 }
 
-fn print_refusal(r: Refusal) {
-    print_number(r.number() as usize);
+fn print_refusal(rt: &impl Print, r: Refusal) -> io::Result<()> {
+    print_number(rt, r.number() as usize)
 }
 
-fn print_answer(a: Answer) {
+fn print_answer(rt: &impl Print, a: Answer) -> io::Result<()> {
     match a {
-        Answer::Done => print_number(0),
-        Answer::Refused(r) => print_refusal(r),
+        Answer::Done => print_number(rt, 0),
+        Answer::Refused(r) => print_refusal(rt, r),
     }
 }
 
-fn print_read(a: ReadAnswer) {
+fn print_read(rt: &impl Print, a: ReadAnswer) -> io::Result<()> {
     match a {
         ReadAnswer::Set(q) => {
-            print_number(0);
-            print_set(q);
+            print_number(rt, 0)?;
+            print_set(rt, q)
         }
-        ReadAnswer::Refused(r) => print_refusal(r),
+        ReadAnswer::Refused(r) => print_refusal(rt, r),
     }
 }
 
-fn print_written(a: WriteAnswer) {
+fn print_written(rt: &impl Print, a: WriteAnswer) -> io::Result<()> {
     match a {
         WriteAnswer::Bins(n) => {
-            print_number(0);
-            print_number(n);
+            print_number(rt, 0)?;
+            print_number(rt, n)
         }
-        WriteAnswer::Refused(r) => print_refusal(r),
+        WriteAnswer::Refused(r) => print_refusal(rt, r),
     }
 }
 
-fn print_rows(a: RowsAnswer) {
+fn print_rows(rt: &impl Print, a: RowsAnswer) -> io::Result<()> {
     match a {
         RowsAnswer::Rows(n) => {
-            print_number(0);
-            print_number(n);
+            print_number(rt, 0)?;
+            print_number(rt, n)
         }
-        RowsAnswer::Refused(r) => print_refusal(r),
+        RowsAnswer::Refused(r) => print_refusal(rt, r),
     }
 }
 
 // ---- the calls
 
-fn open(state: State, lent: Lent, marks: &mut [u8]) -> State {
-    io::write_all(1, b"o");
+fn open(rt: &impl Print, state: State, lent: Lent, marks: &mut [u8]) -> io::Result<State> {
+    rt.write_all(b"o")?;
     let n = at_most(lent.marks, marks.len());
     let o = opening::open(state, &mut marks[..n]);
     let a = o.answer;
-    print_answer(a);
+    print_answer(rt, a)?;
     let after = o.state;
-    after
+    Ok(after)
 }
 
 fn count_of(n: u32, is_from_above: bool) -> usize {
@@ -276,41 +278,70 @@ fn count_of(n: u32, is_from_above: bool) -> usize {
     }
 }
 
-fn read_into(state: State, head: &[u8; 8], bytes: &mut [u8], table: &mut [u8]) -> State {
+fn read_into(
+    rt: &impl Print,
+    input: &mut impl Read,
+    state: State,
+    head: &[u8; 8],
+    bytes: &mut [u8],
+    table: &mut [u8],
+) -> io::Result<State> {
     let given = at_most(records::wide(head[1]), bytes.len());
-    io::read_full(0, &mut bytes[..given]);
+    read_full(input, &mut bytes[..given])?;
     let count = count_of(n_of(head), head[2] != 0);
     let o = reading::read(state, &bytes[..given], count, table);
     let a = o.answer;
-    print_read(a);
+    print_read(rt, a)?;
     let after = o.state;
-    after
+    Ok(after)
 }
 
-fn read(state: State, lent: Lent, head: &[u8; 8], table: &mut [u8]) -> State {
-    io::write_all(1, b"r");
+fn read(
+    rt: &impl Print,
+    input: &mut impl Read,
+    state: State,
+    lent: Lent,
+    head: &[u8; 8],
+    table: &mut [u8],
+) -> io::Result<State> {
+    rt.write_all(b"r")?;
     let n = at_most(lent.table, table.len());
     let mut bytes = [0u8; BINS];
-    read_into(state, head, &mut bytes, &mut table[..n])
+    read_into(rt, input, state, head, &mut bytes, &mut table[..n])
 }
 
-fn write_into(state: State, head: &[u8; 8], q: CtuSet, room: &mut [u8], table: &mut [u8]) -> State {
+fn write_into(
+    rt: &impl Print,
+    state: State,
+    head: &[u8; 8],
+    q: CtuSet,
+    room: &mut [u8],
+    table: &mut [u8],
+) -> io::Result<State> {
     let lent = at_most(records::wide(head[1]), room.len());
     let o = writing::write(state, q, &mut room[..lent], table);
     let a = o.answer;
-    print_written(a);
-    print_sum(sum_of_bytes(1, room, room.len()));
+    print_written(rt, a)?;
+    print_sum(rt, sum_of_bytes(1, room, room.len()))?;
     let after = o.state;
-    after
+    Ok(after)
 }
 
-fn write(state: State, lent: Lent, head: &[u8; 8], table: &mut [u8]) -> State {
-    io::write_all(1, b"w");
+fn write(
+    rt: &impl Print,
+    input: &mut impl Read,
+    state: State,
+    lent: Lent,
+    head: &[u8; 8],
+    table: &mut [u8],
+) -> io::Result<State> {
+    rt.write_all(b"w")?;
     let n = at_most(lent.table, table.len());
     let mut set = [0u8; SET_BYTES];
-    io::read_full(0, &mut set);
+    read_full(input, &mut set)?;
     let mut room = [head[2]; BINS];
     write_into(
+        rt,
         state,
         head,
         sets::set_said(&set),
@@ -342,25 +373,27 @@ fn put_byte(bytes: &mut [u8], place: usize, byte: u8) {
 }
 
 // Puts in a sample that the input has more, at its place.
-fn put_in(samples: &mut [u16]) {
+fn put_in(input: &mut impl Read, samples: &mut [u16]) -> io::Result<()> {
     let mut more = [0u8; 4];
-    io::read_full(0, &mut more);
+    read_full(input, &mut more)?;
     let place = length_of(more[0], more[1]);
     put_sample(samples, place, sample_of(records::pair(more[2], more[3])));
+    Ok(())
 }
 
-fn put_in_all(samples: &mut [u16], times: u8) {
+fn put_in_all(input: &mut impl Read, samples: &mut [u16], times: u8) -> io::Result<()> {
     let mut left = times;
     while left > 0 {
-        put_in(samples);
+        put_in(input, samples)?;
         left -= 1;
     }
+    Ok(())
 }
 
 // The samples, made in the lent ones; answers how many there are.
-fn made_given(head: &[u8; 8], samples: &mut [u16]) -> usize {
+fn made_given(input: &mut impl Read, head: &[u8; 8], samples: &mut [u16]) -> io::Result<usize> {
     let mut more = [0u8; 10];
-    io::read_full(0, &mut more);
+    read_full(input, &mut more)?;
     let base = sample_of(records::pair(more[2], more[3]));
     let spread = sample_of(records::pair(more[4], more[5]));
     made(
@@ -369,11 +402,13 @@ fn made_given(head: &[u8; 8], samples: &mut [u16]) -> usize {
         spread,
         four(more[6], more[7], more[8], more[9]),
     );
-    put_in_all(samples, head[2]);
-    length_of(more[0], more[1])
+    put_in_all(input, samples, head[2])?;
+    Ok(length_of(more[0], more[1]))
 }
 
 fn deliver_from(
+    rt: &impl Print,
+    input: &mut impl Read,
     state: State,
     head: &[u8; 8],
     samples: &mut [u16],
@@ -381,8 +416,8 @@ fn deliver_from(
     cb: &mut [u16],
     cr: &mut [u16],
     marks: &mut [u8],
-) -> State {
-    let given = at_most(made_given(head, samples), samples.len());
+) -> io::Result<State> {
+    let given = at_most(made_given(input, head, samples)?, samples.len());
     let o = delivering::deliver(
         state,
         head[1],
@@ -394,12 +429,14 @@ fn deliver_from(
         marks,
     );
     let a = o.answer;
-    print_answer(a);
+    print_answer(rt, a)?;
     let after = o.state;
-    after
+    Ok(after)
 }
 
 fn deliver(
+    rt: &impl Print,
+    input: &mut impl Read,
     state: State,
     lent: Lent,
     head: &[u8; 8],
@@ -407,14 +444,16 @@ fn deliver(
     cb: &mut [u16],
     cr: &mut [u16],
     marks: &mut [u8],
-) -> State {
-    io::write_all(1, b"d");
+) -> io::Result<State> {
+    rt.write_all(b"d")?;
     let ny = at_most(lent.y, y.len());
     let ncb = at_most(lent.cb, cb.len());
     let ncr = at_most(lent.cr, cr.len());
     let n = at_most(lent.marks, marks.len());
     let mut samples = [0u16; DELIVERY];
     deliver_from(
+        rt,
+        input,
         state,
         head,
         &mut samples,
@@ -426,6 +465,7 @@ fn deliver(
 }
 
 fn filter(
+    rt: &impl Print,
     state: State,
     lent: Lent,
     head: &[u8; 8],
@@ -437,8 +477,8 @@ fn filter(
     out_cr: &mut [u16],
     marks: &mut [u8],
     table: &[u8],
-) -> State {
-    io::write_all(1, b"f");
+) -> io::Result<State> {
+    rt.write_all(b"f")?;
     let ny = at_most(lent.y, y.len());
     let ncb = at_most(lent.cb, cb.len());
     let ncr = at_most(lent.cr, cr.len());
@@ -461,30 +501,32 @@ fn filter(
         &table[..nt],
     );
     let a = o.answer;
-    print_answer(a);
+    print_answer(rt, a)?;
     let after = o.state;
-    after
+    Ok(after)
 }
 
 fn rows_of<'a>(
+    rt: &impl Print,
     state: State,
     component: u8,
     out_y: &'a [u16],
     out_cb: &'a [u16],
     out_cr: &'a [u16],
     marks: &[u8],
-) -> State {
+) -> io::Result<State> {
     let o = finishing::finished_count(state, component, out_y, out_cb, out_cr, marks);
     let a = o.answer;
-    print_rows(a);
+    print_rows(rt, a)?;
     let part = finishing::finished_rows(state, component, out_y, out_cb, out_cr, marks);
-    print_number(part.len());
-    print_sum(sum_of_samples(1, part, part.len()));
+    print_number(rt, part.len())?;
+    print_sum(rt, sum_of_samples(1, part, part.len()))?;
     let after = o.state;
-    after
+    Ok(after)
 }
 
 fn rows<'a>(
+    rt: &impl Print,
     state: State,
     lent: Lent,
     head: &[u8; 8],
@@ -492,13 +534,14 @@ fn rows<'a>(
     out_cb: &'a [u16],
     out_cr: &'a [u16],
     marks: &[u8],
-) -> State {
-    io::write_all(1, b"n");
+) -> io::Result<State> {
+    rt.write_all(b"n")?;
     let ny = at_most(lent.out_y, out_y.len());
     let ncb = at_most(lent.out_cb, out_cb.len());
     let ncr = at_most(lent.out_cr, out_cr.len());
     let n = at_most(lent.marks, marks.len());
     rows_of(
+        rt,
         state,
         head[1],
         &out_y[..ny],
@@ -532,18 +575,18 @@ fn picture_of(m: &[u8; 21]) -> Picture {
     }
 }
 
-fn read_state() -> State {
+fn read_state(input: &mut impl Read) -> io::Result<State> {
     let mut m = [0u8; 21];
-    io::read_full(0, &mut m);
+    read_full(input, &mut m)?;
     let picture = picture_of(&m);
     let next = four(m[17], m[18], m[19], m[20]);
-    State { picture, next }
+    Ok(State { picture, next })
 }
 
-fn read_lengths() -> Lent {
+fn read_lengths(input: &mut impl Read) -> io::Result<Lent> {
     let mut m = [0u8; 16];
-    io::read_full(0, &mut m);
-    Lent {
+    read_full(input, &mut m)?;
+    Ok(Lent {
         y: length_of(m[0], m[1]),
         cb: length_of(m[2], m[3]),
         cr: length_of(m[4], m[5]),
@@ -552,7 +595,7 @@ fn read_lengths() -> Lent {
         out_cr: length_of(m[10], m[11]),
         marks: length_of(m[12], m[13]),
         table: length_of(m[14], m[15]),
-    }
+    })
 }
 
 // Answers the last number drawn.
@@ -632,6 +675,7 @@ fn poke(
 
 // A command that is no call.
 fn change(
+    input: &mut impl Read,
     head: &[u8; 8],
     k: Kept,
     y: &mut [u16],
@@ -642,34 +686,36 @@ fn change(
     out_cr: &mut [u16],
     marks: &mut [u8],
     table: &mut [u8],
-) -> Kept {
+) -> io::Result<Kept> {
     let state = k.state;
     let lent = k.lent;
     let command = head[0];
     match command {
-        0 => Kept {
-            state: read_state(),
+        0 => Ok(Kept {
+            state: read_state(input)?,
             lent,
             more: true,
-        },
-        1 => Kept {
+        }),
+        1 => Ok(Kept {
             state,
-            lent: read_lengths(),
+            lent: read_lengths(input)?,
             more: true,
-        },
+        }),
         2 => {
             fill(n_of(head), y, cb, cr, out_y, out_cb, out_cr, marks, table);
-            k
+            Ok(k)
         }
         _ => {
             poke(head, y, cb, cr, out_y, out_cb, out_cr, marks, table);
-            k
+            Ok(k)
         }
     }
 }
 
 // A command that is a call. Each is lent the leading parts of its buffers.
 fn call(
+    rt: &impl Print,
+    input: &mut impl Read,
     head: &[u8; 8],
     k: Kept,
     y: &mut [u16],
@@ -680,24 +726,26 @@ fn call(
     out_cr: &mut [u16],
     marks: &mut [u8],
     table: &mut [u8],
-) -> State {
+) -> io::Result<State> {
     let s = k.state;
     let lent = k.lent;
     let command = head[0];
     match command {
-        4 => open(s, lent, marks),
-        5 => read(s, lent, head, table),
-        6 => write(s, lent, head, table),
-        7 => deliver(s, lent, head, y, cb, cr, marks),
+        4 => open(rt, s, lent, marks),
+        5 => read(rt, input, s, lent, head, table),
+        6 => write(rt, input, s, lent, head, table),
+        7 => deliver(rt, input, s, lent, head, y, cb, cr, marks),
         8 => filter(
-            s, lent, head, y, cb, cr, out_y, out_cb, out_cr, marks, table,
+            rt, s, lent, head, y, cb, cr, out_y, out_cb, out_cr, marks, table,
         ),
-        _ => rows(s, lent, head, out_y, out_cb, out_cr, marks),
+        _ => rows(rt, s, lent, head, out_y, out_cb, out_cr, marks),
     }
 }
 
 // Makes one command, and says whether there was one.
 fn turn(
+    rt: &impl Print,
+    input: &mut impl Read,
     k: Kept,
     y: &mut [u16; PLANE],
     cb: &mut [u16; PLANE],
@@ -707,32 +755,36 @@ fn turn(
     out_cr: &mut [u16; PLANE],
     marks: &mut [u8; MARKS],
     table: &mut [u8; TABLE],
-) -> Kept {
+) -> io::Result<Kept> {
     let mut head = [0u8; 8];
     let lent = k.lent;
-    if io::read_full(0, &mut head) < 8 {
+    if read_full(input, &mut head)? < 8 {
         let state = k.state;
-        return Kept {
+        return Ok(Kept {
             state,
             lent,
             more: false,
-        };
+        });
     }
     if head[0] < 4 {
-        return change(&head, k, y, cb, cr, out_y, out_cb, out_cr, marks, table);
+        return change(
+            input, &head, k, y, cb, cr, out_y, out_cb, out_cr, marks, table,
+        );
     }
-    let state = call(&head, k, y, cb, cr, out_y, out_cb, out_cr, marks, table);
-    print_sum(sum_of_state(state));
-    print_sum(sum_of_deblocked(lent, y, cb, cr));
-    print_sum(sum_of_filtered(lent, out_y, out_cb, out_cr));
-    print_sum(sum_of_bytes(1, marks, lent.marks));
-    print_sum(sum_of_bytes(1, table, lent.table));
-    io::write_all(1, b"\n");
-    Kept {
+    let state = call(
+        rt, input, &head, k, y, cb, cr, out_y, out_cb, out_cr, marks, table,
+    )?;
+    print_sum(rt, sum_of_state(state))?;
+    print_sum(rt, sum_of_deblocked(lent, y, cb, cr))?;
+    print_sum(rt, sum_of_filtered(lent, out_y, out_cb, out_cr))?;
+    print_sum(rt, sum_of_bytes(1, marks, lent.marks))?;
+    print_sum(rt, sum_of_bytes(1, table, lent.table))?;
+    rt.write_all(b"\n")?;
+    Ok(Kept {
         state,
         lent,
         more: true,
-    }
+    })
 }
 
 // What is kept before the first command: nothing is lent.
@@ -767,7 +819,8 @@ fn start() -> Kept {
 
 // A proved loop has to end, and nothing says that the input does: so the turns are counted down, from
 // a number that no run uses up.
-fn main() {
+fn main(rt: HostRuntime) -> io::Result<()> {
+    let mut input = rt.stdin();
     let mut y = [0u16; PLANE];
     let mut cb = [0u16; PLANE];
     let mut cr = [0u16; PLANE];
@@ -780,6 +833,8 @@ fn main() {
     let mut turns = u64::MAX;
     while turns > 0 && k.more {
         k = turn(
+            &rt,
+            &mut input,
             k,
             &mut y,
             &mut cb,
@@ -789,7 +844,8 @@ fn main() {
             &mut out_cr,
             &mut marks,
             &mut table,
-        );
+        )?;
         turns -= 1;
     }
+    Ok(())
 }

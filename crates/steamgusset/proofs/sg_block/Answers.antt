@@ -6,7 +6,7 @@ use Prim.Native.Nat.{ℕ}
 use Rattle.standard.specs.declared.Answer.{Answer}
 use Rattle.standard.specs.declared.Answer.TheVariants.{Done}
 use Rattle.standard.specs.declared.State.{State}
-use Rattle.standard.specs.Refusals.{Reason, Clear}
+use Rattle.standard.specs.Refusals.{Reason}
 use Rattle.standard.specs.Reasons.{description_reasons, block_reasons}
 use Rattle.standard.specs.Ensures.{Judged}
 use Rattle.standard.proofs.Called.{described}

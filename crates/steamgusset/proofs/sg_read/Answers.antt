@@ -18,7 +18,7 @@ held : (c : After-read-o) → Held c.args.state.now
 held c = told c.is_held.ensures c.if-not-is_held.false
 
 abbrev Verdict : After-read-o → State → ReadOutcome → Type 0
-Verdict c t o = let a = (s c).args in ReadEnsures t a.bins.now a.count a.table.now o c.read.new.1.1.1.0
+Verdict c t o = let a = c.args in ReadEnsures t a.bins.now a.count a.table.now o c.read-o.new.table
 
 judged : (c : After-read-o) (x : ReadAnswer) → c.read-o.result.answer ≡ x
     → Verdict c (state_of c.args.state.now) (record { answer = x; state = c.read-o.result.state })

@@ -15,18 +15,17 @@ use Rattle.steamgusset.proofs.Standing.{stands_some}
 use Rattle.steamgusset.proofs.sg_write.Goals as goal
 use Rattle.steamgusset.proofs.sg_write.Goals.{After-write-o}
 
-abbrev R : Start → CtuSet → List Reason
-R s q = let a = s.args in write_reasons (state_of a.state.now) q a.out.now a.table.now
+abbrev R : After-write-o → List Reason
+R c = let a = c.args in write_reasons (state_of a.state.now) c.set_said.result a.out.now a.table.now
 
 held : (c : After-write-o) → Held c.args.state.now
-held c =
-    told c.is_held.ensures c.if-not-is_held.false
+held c = told c.is_held.ensures c.if-not-is_held.false
 
 -- what the call ensures, where its answer is x
 abbrev Ensures : After-write-o → State → WriteAnswer → Type 0
 Ensures c t x =
-    let a = (s c).args in
-    WriteEnsures t (q c) a.out.now a.table.now (record { answer = x; state = c.write.result.state }) c.write.new.1.1.0 c.write.new.1.1.1.0
+    let a = c.args in
+    WriteEnsures t c.set_said.result a.out.now a.table.now (record { answer = x; state = c.write-o.result.state }) c.write-o.new.out c.write-o.new.table
 
 judged : (c : After-write-o) (x : WriteAnswer) → c.write-o.result.answer ≡ x → Ensures c (state_of c.args.state.now) x
 judged c x e =
@@ -43,7 +42,7 @@ returns-in-Refused c =
     let here = goal.at.returns-in-Refused c in
     let q : CtuSet = c.set_said.result in
     let t = judged here.After-write-o _ c.in-Refused.is in
-    (q, c.set_said.ensures, refused (R c q) _ c.in-Refused.r c.number.ensures (held here.After-write-o) t.0 (refl, t.1.1, t.1.2, refl))
+    (q, c.set_said.ensures, refused (R here.After-write-o) _ c.in-Refused.r c.number.ensures (held here.After-write-o) t.0 (refl, t.1.1, t.1.2, refl))
 
 pub returns-in-Bins : goal.returns-in-Bins
 returns-in-Bins c =

@@ -20,8 +20,10 @@ pub fn pair(low: u8, high: u8) -> u32
     low as u32 + 256 * (high as u32)
 }
 
-// Reads until buf is full or the input ends, and answers how many bytes it put at the start of buf.
+// Reads until buf is full or the input ends, and answers how many bytes it put at the start of buf. A read that fails leaves at the
+// start of buf what was read before it; an error is the reader's own.
 pub fn read_full<R: Read>(input: &mut R, buf: &mut [u8]) -> io::Result<usize>
+    ensures kept { length buf.new ≡ length buf.old }
     ensures fits { IfOk result (λ n. n ≤ length buf.new) }
     ensures bytes { IfOk result (λ n. Consumes (R.remaining input.old) (R.remaining input.new)
         (take n buf.new)) }

@@ -1,9 +1,9 @@
 -- What the answer of a test says, how one is given, and that there is one only.
-use mathlib.Core.Bool.{Bool, true, false}
+use mathlib.Core.Bool.{Bool, true, false, not}
 use mathlib.Core.Path.{◌≡◌, refl, subst}
 use Prim.Native.Nat.{ℕ, ◌≤◌}
 use native.Mathlib.Omega.{arith}
-use borrow.Author.Tests.{leb-true, leb-false}
+use borrow.Author.Tests.{leb-true, leb-false, not-true, not-false}
 use lib.Dec.{leb}
 use Rattle.standard.specs.Refusals.{Tells}
 
@@ -12,6 +12,13 @@ told {P} t e = subst (λ (a : Bool). Tells P a) e t
 
 pub told_not : {P : Type 0} {b : Bool} → Tells P b → b ≡ false → ¬ P
 told_not {P} t e = subst (λ (a : Bool). Tells P a) e t
+
+-- the same of the answer's negation
+pub passed : {P : Type 0} (b : Bool) → Tells P b → not b ≡ false → P
+passed b t e = told t (not-false b e)
+
+pub failed : {P : Type 0} (b : Bool) → Tells P b → not b ≡ true → ¬ P
+failed b t e = told_not t (not-true b e)
 
 pub tell : {P : Type 0} (b : Bool) → (b ≡ true → P) → (b ≡ false → ¬ P) → Tells P b
 tell true y n = y refl

@@ -3,8 +3,8 @@ use mathlib.Core.Path.{◌≡◌, refl, ◌∙◌}
 use mathlib.Core.List.{List, [], ◌∷◌, ◌++◌}
 use mathlib.Core.Logic.{◌⊎◌, inl, inr}
 use Prim.Native.Nat.{ℕ}
-use Rattle.standard.specs.declared.Answer.{Answer}
-use Rattle.standard.specs.declared.Answer.TheVariants.{Done, Refused}
+use Rattle.std.specs.Prelude.{Result, Ok, Err}
+use Rattle.standard.specs.declared.Refusal.{Refusal}
 use Rattle.standard.specs.Refusals.{Reason, First, Clear, number_of}
 use Rattle.standard.specs.Ensures.{Judged}
 
@@ -68,11 +68,11 @@ same_clear [] (t ∷ ts) s c = absurd s
 same_clear (r ∷ rs) [] s c = absurd s
 same_clear (r ∷ rs) (t ∷ ts) s c = (λ k. c.0 (s.0.2 k), same_clear rs ts s.1 c.1)
 
-pub same_judged : (rs ts : List Reason) (a : Answer) → Same rs ts → Judged rs a → Judged ts a
-same_judged rs ts Done s c = same_clear rs ts s c
-same_judged rs ts (Refused r) s f = same_first rs ts (number_of r) s f
+pub same_judged : {T : Type 0} (rs ts : List Reason) (a : Result T Refusal) → Same rs ts → Judged rs a → Judged ts a
+same_judged rs ts (Ok x) s c = same_clear rs ts s c
+same_judged rs ts (Err r) s f = same_first rs ts (number_of r) s f
 
 -- a verdict on the back, where none of the front holds
-pub judged_back : (front back : List Reason) (a : Answer) → Clear front → Judged back a → Judged (front ++ back) a
-judged_back front back Done c d = clear_both front back c d
-judged_back front back (Refused r) c f = first_back front back (number_of r) c f
+pub judged_back : {T : Type 0} (front back : List Reason) (a : Result T Refusal) → Clear front → Judged back a → Judged (front ++ back) a
+judged_back front back (Ok x) c d = clear_both front back c d
+judged_back front back (Err r) c f = first_back front back (number_of r) c f

@@ -62,7 +62,7 @@ sign (negsuc n) = negsuc 0
 abbrev pub categories : List ℕ
 categories = 1 ∷ 2 ∷ 0 ∷ 3 ∷ 4 ∷ []
 
--- edge_idx: of 2 + the two signs, after 0, 1 and 2 have become 1, 2 and 0
+-- edgeIdx: of 2 + the two signs, after 0, 1 and 2 have become 1, 2 and 0
 unfoldable pub edge_idx : ℤ → ℕ
 edge_idx (pos n) = get_or categories n 0
 edge_idx (negsuc n) = 0
@@ -106,7 +106,7 @@ neighbour l context plane x y step =
     let v = pos y +ℤ step.v in
     cond (context.counts x y u v) (some (at plane l.width (nat_abs u) (nat_abs v))) none
 
--- a comparison with a sample that does not count gives edge_idx 0
+-- a comparison with a sample that does not count gives edgeIdx 0
 unfoldable pub edge_idx_of : ℕ → Option ℕ → Option ℕ → ℕ
 edge_idx_of s (some a) (some b) = edge_idx (pos 2 +ℤ sign (pos s -ℤ pos a) +ℤ sign (pos s -ℤ pos b))
 edge_idx_of s (some a) none = 0

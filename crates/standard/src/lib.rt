@@ -2,12 +2,12 @@
 // the laws of those definitions, and document 01's ten cases, stand in proofs/.
 #![tactic(auto)]
 
-ghost use Rattle.std.specs.Prelude.{◌≡◌, ◌<◌};
+ghost use Rattle.std.specs.Prelude.{◌≡◌, ◌<◌, Ok, Err};
 ghost use Rattle.standard.specs.Calls.{opened_state, state_after};
 ghost use Rattle.standard.specs.Refusals.{number_of};
 
 // BitDepthY of luma, and BitDepthC of Cb and Cr.
-#[derive(Clone, Copy)]
+#[derive(Clone, Copy, PartialEq, Eq)]
 pub struct BitDepths {
     pub luma: u8,
     pub chroma: u8,
@@ -15,7 +15,7 @@ pub struct BitDepths {
 
 // What a caller says of a picture. The fields hold any number, so that a description that breaks
 // a rule can be handed in, and is refused. `format` is chroma_format_idc.
-#[derive(Clone, Copy)]
+#[derive(Clone, Copy, PartialEq, Eq)]
 pub struct Picture {
     pub width: u32,
     pub height: u32,
@@ -27,7 +27,7 @@ pub struct Picture {
 }
 
 // The description, and the number of the next CTU to be read or written.
-#[derive(Clone, Copy)]
+#[derive(Clone, Copy, PartialEq, Eq)]
 pub struct State {
     pub picture: Picture,
     pub next: u32,
@@ -57,7 +57,7 @@ impl State {
 }
 
 // One component's set. Offsets are as coded, before they are scaled to the depth.
-#[derive(Clone, Copy)]
+#[derive(Clone, Copy, PartialEq, Eq)]
 pub enum Offsets {
     Off,
     Band {
@@ -77,7 +77,7 @@ pub enum Offsets {
 }
 
 // A CTU's set.
-#[derive(Clone, Copy)]
+#[derive(Clone, Copy, PartialEq, Eq)]
 pub struct CtuSet {
     pub luma: Offsets,
     pub cb: Offsets,
@@ -86,7 +86,7 @@ pub struct CtuSet {
 
 // What the bins of a CTU and the rules of its set depend on: the two switches, and the bit depth of
 // each component, which decides M.
-#[derive(Clone, Copy)]
+#[derive(Clone, Copy, PartialEq, Eq)]
 pub struct Switches {
     pub luma: bool,
     pub chroma: bool,
@@ -100,50 +100,35 @@ pub const SET_BYTES: usize = 18;
 
 pub const ENTRY_BYTES: usize = SET_BYTES;
 
-// Why a call is refused. `number_of` in specs/Refusals gives each its number in document 01.
-#[derive(Clone, Copy)]
+// Why a call is refused. Each has its number in document 01, which `number_of` in specs/Refusals says.
+#[derive(Clone, Copy, PartialEq, Eq)]
 pub enum Refusal {
-    Description,
-    Length,
-    NoSuchBlock,
-    CountTooLarge,
-    TooEarly,
-    BinsRemain,
-    AllRead,
-    SampleTooLarge,
-    DeliveredBefore,
-    NotReady,
-    FilteredBefore,
-    NoBins,
-    NoRoom,
-    Stored,
+    Description = 1,
+    Length = 2,
+    NoSuchBlock = 3,
+    CountTooLarge = 4,
+    TooEarly = 5,
+    BinsRemain = 6,
+    AllRead = 7,
+    SampleTooLarge = 8,
+    DeliveredBefore = 9,
+    NotReady = 10,
+    FilteredBefore = 11,
+    NoBins = 12,
+    NoRoom = 13,
+    Stored = 14,
 }
 
 impl Refusal {
     pub fn number(self) -> u32
         ensures { result ≡ number_of self }
     {
-        match self {
-            Refusal::Description => 1,
-            Refusal::Length => 2,
-            Refusal::NoSuchBlock => 3,
-            Refusal::CountTooLarge => 4,
-            Refusal::TooEarly => 5,
-            Refusal::BinsRemain => 6,
-            Refusal::AllRead => 7,
-            Refusal::SampleTooLarge => 8,
-            Refusal::DeliveredBefore => 9,
-            Refusal::NotReady => 10,
-            Refusal::FilteredBefore => 11,
-            Refusal::NoBins => 12,
-            Refusal::NoRoom => 13,
-            Refusal::Stored => 14,
-        }
+        self as u32
     }
 }
 
 // Columns x0 up to and without x1, rows y0 up to and without y1.
-#[derive(Clone, Copy)]
+#[derive(Clone, Copy, PartialEq, Eq)]
 pub struct Rectangle {
     pub x0: usize,
     pub x1: usize,
@@ -153,7 +138,7 @@ pub struct Rectangle {
 
 // What the filter knows of a component: the size of its plane, its bit depth, and how far its
 // offsets are shifted.
-#[derive(Clone, Copy)]
+#[derive(Clone, Copy, PartialEq, Eq)]
 pub struct Layout {
     pub width: usize,
     pub height: usize,
@@ -161,55 +146,32 @@ pub struct Layout {
     pub shift: u32,
 }
 
-// What open, deliver and filter answer, and the state that they hand back. The state stands beside
-// the answer, since an enum could hold none with an array in it.
+// What a call answers, and the state that it hands back: a value, or why the call is refused. The state stands beside the answer,
+// since a refusal hands it back too.
 #[derive(Clone, Copy)]
-pub enum Answer {
-    Done,
-    Refused(Refusal),
-}
-
-#[derive(Clone, Copy)]
-pub struct Outcome {
-    pub answer: Answer,
+pub struct Outcome<T> {
+    pub answer: Result<T, Refusal>,
     pub state: State,
 }
 
-// What read answers: the set.
-#[derive(Clone, Copy)]
-pub enum ReadAnswer {
-    Set(CtuSet),
-    Refused(Refusal),
-}
+impl<T> Outcome<T> {
+    pub fn accepted(value: T, state: State) -> Outcome<T>
+        ensures answer { result.answer ≡ Ok value }
+        ensures state { result.state ≡ state }
+    {
+        Outcome {
+            answer: Ok(value),
+            state,
+        }
+    }
 
-#[derive(Clone, Copy)]
-pub struct ReadOutcome {
-    pub answer: ReadAnswer,
-    pub state: State,
-}
-
-// What write answers: the number of bins.
-#[derive(Clone, Copy)]
-pub enum WriteAnswer {
-    Bins(usize),
-    Refused(Refusal),
-}
-
-#[derive(Clone, Copy)]
-pub struct WriteOutcome {
-    pub answer: WriteAnswer,
-    pub state: State,
-}
-
-// What the companion of finished rows answers: the number of sample rows.
-#[derive(Clone, Copy)]
-pub enum RowsAnswer {
-    Rows(usize),
-    Refused(Refusal),
-}
-
-#[derive(Clone, Copy)]
-pub struct RowsOutcome {
-    pub answer: RowsAnswer,
-    pub state: State,
+    pub fn refused(refusal: Refusal, state: State) -> Outcome<T>
+        ensures answer { result.answer ≡ Err refusal }
+        ensures state { result.state ≡ state }
+    {
+        Outcome {
+            answer: Err(refusal),
+            state,
+        }
+    }
 }

@@ -12,7 +12,7 @@ use Rattle.standard.specs.declared.State.{State}
 use Rattle.standard.specs.declared.Offsets.{Offsets}
 use Rattle.standard.specs.declared.Offsets.TheVariants.{Off, Band, Edge}
 use Rattle.standard.specs.declared.CtuSet.{CtuSet}
-use Rattle.standard.specs.Sets.{largest, switches_of, all_off}
+use Rattle.standard.specs.Sets.{four, largest, switches_of, all_off}
 use Rattle.standard.specs.Bins.{truncated, bins_of}
 use Rattle.standard.specs.Samples.{Parameters, filtered_plane}
 use Rattle.standard.specs.Table.{entry_size, encode_entry}
@@ -91,18 +91,18 @@ abbrev pub empty : List ℕ
 empty = replicate entry_size 0
 
 abbrev pub case5 : Offsets
-case5 = Band 30 (pos 0) (negsuc 2) (pos 0) (pos 1)
+case5 = Band 30 (four (pos 0) (negsuc 2) (pos 0) (pos 1))
 
 -- two sets to tell apart
 abbrev pub A : CtuSet
-A = of_luma (Band 3 (pos 1) (pos 2) (negsuc 2) (pos 0))
+A = of_luma (Band 3 (four (pos 1) (pos 2) (negsuc 2) (pos 0)))
 
 abbrev pub B : CtuSet
-B = of_luma (Edge 1 (pos 1) (pos 0) (pos 0) (negsuc 0))
+B = of_luma (Edge 1 (four (pos 1) (pos 0) (pos 0) (negsuc 0)))
 
 -- the offsets of case 7, in any class
 abbrev pub edges : ℕ → Offsets
-edges class = Edge class (pos 2) (pos 1) (negsuc 0) (negsuc 1)
+edges class = Edge class (four (pos 2) (pos 1) (negsuc 0) (negsuc 1))
 
 -- a block, row after row, that each class changes otherwise, and that no other two steps of one sample change as the class does
 abbrev pub block : List ℕ
@@ -114,9 +114,9 @@ uneven = 199 ∷ 251 ∷ 223 ∷ 194 ∷ 0 ∷ []
 
 abbrev pub misread : CtuSet
 misread = record {
-  luma = Edge 3 (pos 0) (pos 0) (pos 0) (negsuc 7);
-  cb = Edge 1 (pos 0) (pos 7) (pos 0) (pos 0);
-  cr = Edge 1 (pos 0) (pos 0) (pos 0) (pos 0);
+  luma = Edge 3 (four (pos 0) (pos 0) (pos 0) (negsuc 7));
+  cb = Edge 1 (four (pos 0) (pos 7) (pos 0) (pos 0));
+  cr = Edge 1 (four (pos 0) (pos 0) (pos 0) (pos 0));
 }
 
 abbrev pub lost : List ℕ
@@ -124,7 +124,7 @@ lost = 96 ∷ 15 ∷ 224 ∷ []
 
 -- the last band, which goes by the depth
 abbrev pub last : CtuSet
-last = of_each (Band 31 (pos 7) (pos 0) (pos 0) (pos 0))
+last = of_each (Band 31 (four (pos 7) (pos 0) (pos 0) (pos 0)))
 
 -- the number of a case, and a row of it
 abbrev pub table : List (ℕ × Case)
@@ -136,8 +136,8 @@ table =
     -- 2. Bin "0": off
     ∷ (2, reads one empty (0 ∷ []) 1 all_off)
     -- 3. E3 40, count 11: edge, class 2, offsets 1, 0, 0, -2. E3 5F with count 11 reads the same
-    ∷ (3, reads one empty (227 ∷ 64 ∷ []) 11 (of_luma (Edge 2 (pos 1) (pos 0) (pos 0) (negsuc 1))))
-    ∷ (3, reads one empty (227 ∷ 95 ∷ []) 11 (of_luma (Edge 2 (pos 1) (pos 0) (pos 0) (negsuc 1))))
+    ∷ (3, reads one empty (227 ∷ 64 ∷ []) 11 (of_luma (Edge 2 (four (pos 1) (pos 0) (pos 0) (negsuc 1)))))
+    ∷ (3, reads one empty (227 ∷ 95 ∷ []) 11 (of_luma (Edge 2 (four (pos 1) (pos 0) (pos 0) (negsuc 1)))))
     -- 4. E3 40 with count 10: refused 5. Count 12: refused 6. Count 17: refused 4
     ∷ (4, refuses one empty (227 ∷ 64 ∷ []) 10 5)
     ∷ (4, refuses one empty (227 ∷ 64 ∷ []) 12 6)
@@ -149,8 +149,8 @@ table =
     -- 7. Row 5 3 5 5 6 6 4 4, class 0, offsets 2, 1, -1, -2: 5 5 4 6 5 5 5 4
     ∷ (7, becomes (mono 8 1) (of_luma (edges 0)) 0 (5 ∷ 3 ∷ 5 ∷ 5 ∷ 6 ∷ 6 ∷ 4 ∷ 4 ∷ []) (5 ∷ 5 ∷ 4 ∷ 6 ∷ 5 ∷ 5 ∷ 5 ∷ 4 ∷ []))
     -- 8. Band 31, offset 7: 250 becomes 255. Band 0, offset -7: 2 becomes 0
-    ∷ (8, becomes (mono 1 1) (of_luma (Band 31 (pos 7) (pos 0) (pos 0) (pos 0))) 0 (250 ∷ []) (255 ∷ []))
-    ∷ (8, becomes (mono 1 1) (of_luma (Band 0 (negsuc 6) (pos 0) (pos 0) (pos 0))) 0 (2 ∷ []) (0 ∷ []))
+    ∷ (8, becomes (mono 1 1) (of_luma (Band 31 (four (pos 7) (pos 0) (pos 0) (pos 0)))) 0 (250 ∷ []) (255 ∷ []))
+    ∷ (8, becomes (mono 1 1) (of_luma (Band 0 (four (negsuc 6) (pos 0) (pos 0) (pos 0)))) 0 (2 ∷ []) (0 ∷ []))
     -- 9. CTU with a left neighbour: "1" copies it. With both neighbours: "01" copies the upper
     ∷ (9, reads (due (mono 32 16) 1) (encode_entry A ++ encode_entry all_off) (128 ∷ []) 1 A)
     ∷ (9, reads (due (mono 32 32) 3) (encode_entry all_off ++ (encode_entry A ++ (encode_entry B ++ encode_entry all_off))) (64 ∷ []) 2 A)
@@ -167,16 +167,16 @@ table =
     -- 14. Class 3, upper right and lower left: 7 is below 9 alone, and the next 7 above 6 and 3
     ∷ (14, becomes (mono 4 3) (of_luma (edges 3)) 0 block (7 ∷ 7 ∷ 9 ∷ 6 ∷ 3 ∷ 8 ∷ 5 ∷ 4 ∷ 7 ∷ 3 ∷ 5 ∷ 5 ∷ []))
     -- 15. Depth 10, where bands are 32 wide and offsets as coded: band 3 begins at 96. 95, 96, 127, 128 become 95, 127, 158, 97
-    ∷ (15, becomes (mono_of 10 4 1) (of_luma (Band 3 (pos 31) (negsuc 30) (pos 0) (pos 0))) 0 (95 ∷ 96 ∷ 127 ∷ 128 ∷ []) (95 ∷ 127 ∷ 158 ∷ 97 ∷ []))
+    ∷ (15, becomes (mono_of 10 4 1) (of_luma (Band 3 (four (pos 31) (negsuc 30) (pos 0) (pos 0)))) 0 (95 ∷ 96 ∷ 127 ∷ 128 ∷ []) (95 ∷ 127 ∷ 158 ∷ 97 ∷ []))
     -- 16. Depth 12, where bands are 128 wide and offsets act times 4: 1, -2, 3, -4 from band 5 on, which begins at 640, as 4, -8, 12, -16
-    ∷ (16, becomes (mono_of 12 10 1) (of_luma (Band 5 (pos 1) (negsuc 1) (pos 3) (negsuc 3))) 0 (639 ∷ 640 ∷ 767 ∷ 768 ∷ 895 ∷ 896 ∷ 1023 ∷ 1024 ∷ 1151 ∷ 1152 ∷ []) (639 ∷ 644 ∷ 771 ∷ 760 ∷ 887 ∷ 908 ∷ 1035 ∷ 1008 ∷ 1135 ∷ 1152 ∷ []))
+    ∷ (16, becomes (mono_of 12 10 1) (of_luma (Band 5 (four (pos 1) (negsuc 1) (pos 3) (negsuc 3)))) 0 (639 ∷ 640 ∷ 767 ∷ 768 ∷ 895 ∷ 896 ∷ 1023 ∷ 1024 ∷ 1151 ∷ 1152 ∷ []) (639 ∷ 644 ∷ 771 ∷ 760 ∷ 887 ∷ 908 ∷ 1035 ∷ 1008 ∷ 1135 ∷ 1152 ∷ []))
     -- 17. Depth 12: case 7's row a hundredfold, and its offsets as 8, 4, -4, -8
     ∷ (17, becomes (mono_of 12 8 1) (of_luma (edges 0)) 0 (500 ∷ 300 ∷ 500 ∷ 500 ∷ 600 ∷ 600 ∷ 400 ∷ 400 ∷ []) (500 ∷ 308 ∷ 496 ∷ 504 ∷ 596 ∷ 596 ∷ 404 ∷ 400 ∷ []))
     -- 18. Depth 16, where bands are 2048 wide and offsets act times 64. Band 31, offset 31, as 1984: 65000 becomes 65535. Band 0, offset -31:
     -- 1000 becomes 0. Band 3, which begins at 6144, with offsets 1 and -2: 6143, 6144, 8191, 8192 become 6143, 6208, 8255, 8064
-    ∷ (18, becomes (mono_of 16 1 1) (of_luma (Band 31 (pos 31) (pos 0) (pos 0) (pos 0))) 0 (65000 ∷ []) (65535 ∷ []))
-    ∷ (18, becomes (mono_of 16 1 1) (of_luma (Band 0 (negsuc 30) (pos 0) (pos 0) (pos 0))) 0 (1000 ∷ []) (0 ∷ []))
-    ∷ (18, becomes (mono_of 16 4 1) (of_luma (Band 3 (pos 1) (negsuc 1) (pos 0) (pos 0))) 0 (6143 ∷ 6144 ∷ 8191 ∷ 8192 ∷ []) (6143 ∷ 6208 ∷ 8255 ∷ 8064 ∷ []))
+    ∷ (18, becomes (mono_of 16 1 1) (of_luma (Band 31 (four (pos 31) (pos 0) (pos 0) (pos 0)))) 0 (65000 ∷ []) (65535 ∷ []))
+    ∷ (18, becomes (mono_of 16 1 1) (of_luma (Band 0 (four (negsuc 30) (pos 0) (pos 0) (pos 0)))) 0 (1000 ∷ []) (0 ∷ []))
+    ∷ (18, becomes (mono_of 16 4 1) (of_luma (Band 3 (four (pos 1) (negsuc 1) (pos 0) (pos 0)))) 0 (6143 ∷ 6144 ∷ 8191 ∷ 8192 ∷ []) (6143 ∷ 6208 ∷ 8255 ∷ 8064 ∷ []))
     -- 19. The largest magnitude is 15 at depth 9, 31 at depth 10 and at 16: so many ones and no zero. 30 at depth 10: as many, and a zero
     ∷ (19, magnitude 9 15 (replicate 15 true))
     ∷ (19, magnitude 10 31 (replicate 31 true))
@@ -184,8 +184,8 @@ table =
     ∷ (19, magnitude 16 31 (replicate 31 true))
     -- 20. BF FF FF FF FF FF FF FE 12 80, count 73, at depth 10 and at 16: "10", 31 ones, 30 ones and "0", "0", "0", the signs "0" and "1",
     -- "00101": band, position 5, offsets 31, -30, 0, 0
-    ∷ (20, reads (due (mono_of 10 16 16) 0) empty (191 ∷ replicate 6 255 ++ (254 ∷ 18 ∷ 128 ∷ [])) 73 (of_luma (Band 5 (pos 31) (negsuc 29) (pos 0) (pos 0))))
-    ∷ (20, reads (due (mono_of 16 16 16) 0) empty (191 ∷ replicate 6 255 ++ (254 ∷ 18 ∷ 128 ∷ [])) 73 (of_luma (Band 5 (pos 31) (negsuc 29) (pos 0) (pos 0))))
+    ∷ (20, reads (due (mono_of 10 16 16) 0) empty (191 ∷ replicate 6 255 ++ (254 ∷ 18 ∷ 128 ∷ [])) 73 (of_luma (Band 5 (four (pos 31) (negsuc 29) (pos 0) (pos 0)))))
+    ∷ (20, reads (due (mono_of 16 16 16) 0) empty (191 ∷ replicate 6 255 ++ (254 ∷ 18 ∷ 128 ∷ [])) 73 (of_luma (Band 5 (four (pos 31) (negsuc 29) (pos 0) (pos 0)))))
     -- 21. 32x32, CTB size 16: CTU 2, the first of its row, has none to its left, though CTU 1 was read before it: "1" copies the upper
     ∷ (21, reads (due (mono 32 32) 2) (encode_entry A ++ (encode_entry B ++ (encode_entry all_off ++ encode_entry all_off))) (128 ∷ []) 1 A)
     -- TWO DEPTHS (document 02, K3)
@@ -193,12 +193,12 @@ table =
     -- 0, 0, 0, -8. Chroma: "11"; Cb "0", seven ones and no zero, "0", "0", "00": class 0, offsets 0, 7, 0, 0; Cr "10", "0", "0", "0":
     -- 1, 0, 0, 0. A reader with 10 for both takes the zero after the seven ones as theirs: class "01" is 1, and Cr has four zeros. One with 8
     -- for both ends luma's ones after seven: class "10" is 2, and the ones that are left are Cb's first. Neither has to refuse anything
-    ∷ (22, reads (due (colour_of (depths 10 8) 16 16) 0) empty uneven 35 (record { luma = Edge 3 (pos 0) (pos 0) (pos 0) (negsuc 7); cb = Edge 0 (pos 0) (pos 7) (pos 0) (pos 0); cr = Edge 0 (pos 1) (pos 0) (pos 0) (pos 0) }))
+    ∷ (22, reads (due (colour_of (depths 10 8) 16 16) 0) empty uneven 35 (record { luma = Edge 3 (four (pos 0) (pos 0) (pos 0) (negsuc 7)); cb = Edge 0 (four (pos 0) (pos 7) (pos 0) (pos 0)); cr = Edge 0 (four (pos 1) (pos 0) (pos 0) (pos 0)) }))
     ∷ (22, reads (due (colour_of (alike 10) 16 16) 0) empty uneven 35 misread)
-    ∷ (22, reads (due (colour_of (alike 8) 16 16) 0) empty uneven 35 (record { luma = Edge 2 (pos 0) (pos 0) (pos 0) (negsuc 6); cb = Edge 0 (pos 2) (pos 7) (pos 0) (pos 0); cr = Edge 0 (pos 1) (pos 0) (pos 0) (pos 0) }))
+    ∷ (22, reads (due (colour_of (alike 8) 16 16) 0) empty uneven 35 (record { luma = Edge 2 (four (pos 0) (pos 0) (pos 0) (negsuc 6)); cb = Edge 0 (four (pos 2) (pos 7) (pos 0) (pos 0)); cr = Edge 0 (four (pos 1) (pos 0) (pos 0) (pos 0)) }))
     -- 23. 60 0F E0, count 19, at luma 10 and chroma 8: "0"; "11", four zeros, "00", three zeros, seven ones: luma off, edge of class 0, and of
     -- Cr the last offset is -7. At 10 for both those ones go on: refused 5
-    ∷ (23, reads (due (colour_of (depths 10 8) 16 16) 0) empty lost 19 (record { luma = Off; cb = Edge 0 (pos 0) (pos 0) (pos 0) (pos 0); cr = Edge 0 (pos 0) (pos 0) (pos 0) (negsuc 6) }))
+    ∷ (23, reads (due (colour_of (depths 10 8) 16 16) 0) empty lost 19 (record { luma = Off; cb = Edge 0 (four (pos 0) (pos 0) (pos 0) (pos 0)); cr = Edge 0 (four (pos 0) (pos 0) (pos 0) (negsuc 6)) }))
     ∷ (23, refuses (due (colour_of (alike 10) 16 16) 0) empty lost 19 5)
     -- 24. Band 31 with offset 7, which acts as 28 at depth 12. At luma 12 and chroma 8: luma's 4090 becomes 4095, and 3967, of band 30, stays; Cb's
     -- and Cr's 250 becomes 255, and 247 stays. At luma 8 and chroma 12 the other way round

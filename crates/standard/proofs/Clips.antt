@@ -10,6 +10,7 @@ use lib.Dec.{ltb}
 use lib.IntN.{ℤ, pos, negsuc, nat_abs, neg_ℤ, ◌+ℤ◌, ◌*ℤ◌, zero-*ℤ}
 use lib.ListN.{get_or}
 use lib.Pow.{pow_pos}
+use Rattle.standard.specs.declared.Four.{Four}
 use Rattle.standard.specs.Sets.{Small}
 use Rattle.standard.specs.Samples.{clip, offset_val}
 
@@ -51,7 +52,7 @@ pub nat_abs_scaled : (z : ℤ) (k : ℕ) → nat_abs (z *ℤ pos k) ≡ nat_abs 
 nat_abs_scaled (pos n) k = refl
 nat_abs_scaled (negsuc n) k = nat_abs_negℤ (suc n * k)
 
-offset_small : {m : ℕ} {o1 o2 o3 o4 : ℤ} → Small m o1 o2 o3 o4 → (n : ℕ) → nat_abs (get_or (pos 0 ∷ o1 ∷ o2 ∷ o3 ∷ o4 ∷ []) n (pos 0)) ≤ m
+offset_small : {m : ℕ} {o : Four ℤ} → Small m o → (n : ℕ) → nat_abs (get_or (pos 0 ∷ o.o1 ∷ o.o2 ∷ o.o3 ∷ o.o4 ∷ []) n (pos 0)) ≤ m
 offset_small small zero = omega arith
 offset_small small (suc zero) = small.m1
 offset_small small (suc (suc zero)) = small.m2
@@ -59,19 +60,19 @@ offset_small small (suc (suc (suc zero))) = small.m3
 offset_small small (suc (suc (suc (suc zero)))) = small.m4
 offset_small small (suc (suc (suc (suc (suc n))))) = omega arith
 
-pub offset_val_small : {m : ℕ} {o1 o2 o3 o4 : ℤ} (shift : ℕ) → Small m o1 o2 o3 o4 → (n : ℕ) → nat_abs (offset_val shift o1 o2 o3 o4 n) ≤ m * 2 ^ shift
+pub offset_val_small : {m : ℕ} {o : Four ℤ} (shift : ℕ) → Small m o → (n : ℕ) → nat_abs (offset_val shift o n) ≤ m * 2 ^ shift
 unfolding offset_val
 offset_val_small shift small n = rw nat_abs_scaled (mul-le-mul_right (2 ^ shift) (offset_small small n))
 
-pub offset_val_zero : (shift : ℕ) (o1 o2 o3 o4 : ℤ) → offset_val shift o1 o2 o3 o4 0 ≡ pos 0
+pub offset_val_zero : (shift : ℕ) (o : Four ℤ) → offset_val shift o 0 ≡ pos 0
 unfolding offset_val
-offset_val_zero shift o1 o2 o3 o4 = zero-*ℤ (pos (2 ^ shift))
+offset_val_zero shift o = zero-*ℤ (pos (2 ^ shift))
 
 -- ---- both together
 
 module _ (depth : ℕ) {s : ℕ} (fits : s < 2 ^ depth) (shift : ℕ) where
-  pub offset_near : {m : ℕ} {o1 o2 o3 o4 : ℤ} → Small m o1 o2 o3 o4 → (n : ℕ) → Near s (clip depth (pos s +ℤ offset_val shift o1 o2 o3 o4 n)) (m * 2 ^ shift)
-  offset_near {o1 = o1} {o2 = o2} {o3 = o3} {o4 = o4} small n = near_wider (offset_val_small shift small n) (clip_near depth fits (offset_val shift o1 o2 o3 o4 n))
+  pub offset_near : {m : ℕ} {o : Four ℤ} → Small m o → (n : ℕ) → Near s (clip depth (pos s +ℤ offset_val shift o n)) (m * 2 ^ shift)
+  offset_near {o = o} small n = near_wider (offset_val_small shift small n) (clip_near depth fits (offset_val shift o n))
 
-  pub index_zero : (o1 o2 o3 o4 : ℤ) → clip depth (pos s +ℤ offset_val shift o1 o2 o3 o4 0) ≡ s
-  index_zero o1 o2 o3 o4 = ap (λ (z : ℤ). clip depth (pos s +ℤ z)) (offset_val_zero shift o1 o2 o3 o4) ∙ clip_unmoved depth fits
+  pub index_zero : (o : Four ℤ) → clip depth (pos s +ℤ offset_val shift o 0) ≡ s
+  index_zero o = ap (λ (z : ℤ). clip depth (pos s +ℤ z)) (offset_val_zero shift o) ∙ clip_unmoved depth fits

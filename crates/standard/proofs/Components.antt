@@ -5,12 +5,13 @@ use mathlib.Core.List.{List, [], ◌++◌, append_assoc}
 use Prim.Native.Nat.{ℕ, zero, suc, ◌≤◌, ◌<◌}
 use native.Mathlib.Omega.{arith}
 use lib.IntN.{ℤ, pos, negsuc, nat_abs, neg_ℤ}
+use Rattle.standard.specs.declared.Four.{Four}
 use Rattle.standard.specs.declared.Offsets.{Offsets}
 use Rattle.standard.specs.declared.Offsets.TheVariants.{Off, Band, Edge}
-use Rattle.standard.specs.Sets.{NotNegative, NotPositive, Small, EdgeSigns, Fits, Shares}
-use Rattle.standard.specs.Bins.{truncated, fixed_length, magnitudes, signs, type_idx, type_bins, rest, rest_of_cr}
+use Rattle.standard.specs.Sets.{four, NotNegative, NotPositive, Small, EdgeSigns, Fits, Shares}
+use Rattle.standard.specs.Bins.{truncated, fixed_length, magnitudes, sign_bins, signs, type_idx, type_bins, rest, rest_of_cr}
 use Rattle.standard.proofs.Codes.{Code, Spelled, pure, in_turn, said_of}
-use Rattle.standard.proofs.Elements.{Below, AtMost, fixed_code, truncated_code, Four, AllAtMost, four_bins, magnitudes_code, AllSized, four_signs, signs_code}
+use Rattle.standard.proofs.Elements.{Below, AtMost, fixed_code, truncated_code, four_bins, AllAtMost, magnitudes_code, AllSized, signs_code}
 
 -- a set of type t, where a type above 2 does not occur
 abbrev pub kind : ℕ → ℕ
@@ -22,15 +23,12 @@ abbrev pub Typed : ℕ → ℕ → Offsets → Type 0
 Typed m t c = Fits m c × (type_idx c ≡ kind t)
 
 abbrev pub sizes : Four ℤ → Four ℕ
-sizes z = (nat_abs z.0, (nat_abs z.1.0, (nat_abs z.1.1.0, nat_abs z.1.1.1)))
+sizes o = four (nat_abs o.o1) (nat_abs o.o2) (nat_abs o.o3) (nat_abs o.o4)
 
-abbrev pub SmallFour : ℕ → Four ℤ → Type 0
-SmallFour m z = Small m z.0 z.1.0 z.1.1.0 z.1.1.1
-
-small : {m : ℕ} {z : Four ℤ} → AllAtMost m (sizes z) → SmallFour m z
+small : {m : ℕ} {o : Four ℤ} → AllAtMost m (sizes o) → Small m o
 small i = record { m1 = i.0; m2 = i.1.0; m3 = i.1.1.0; m4 = i.1.1.1 }
 
-all_at_most : {m : ℕ} {z : Four ℤ} → SmallFour m z → AllAtMost m (sizes z)
+all_at_most : {m : ℕ} {o : Four ℤ} → Small m o → AllAtMost m (sizes o)
 all_at_most i = (i.m1, (i.m2, (i.m3, i.m4)))
 
 -- ---- off
@@ -41,8 +39,8 @@ off_to m c e = subst (λ (c : Offsets). Typed m 0 c × (◌≡◌ {A = List Bool
 
 pub off_from : (m : ℕ) (c : Offsets) → Typed m 0 c → (a : Offsets) × (a ≡ c) × (a ≡ Off)
 off_from m Off i = (Off, refl, refl)
-off_from m (Band position o1 o2 o3 o4) i = absurd (omega (arith, i.1))
-off_from m (Edge class o1 o2 o3 o4) i = absurd (omega (arith, i.1))
+off_from m (Band position o) i = absurd (omega (arith, i.1))
+off_from m (Edge class o) i = absurd (omega (arith, i.1))
 
 -- ---- band: magnitudes, signs, position
 
@@ -50,23 +48,21 @@ abbrev pub Banded : ℕ → Four ℕ × (Four ℤ × ℕ) → Type 0
 Banded m t = AllAtMost m t.0 × (AllSized t.0 t.1.0 × Below 5 t.1.1)
 
 abbrev pub band_bins : ℕ → Four ℕ × (Four ℤ × ℕ) → List Bool
-band_bins m t = four_bins m t.0 ++ (four_signs t.1.0 ++ fixed_length 5 t.1.1)
+band_bins m t = four_bins (truncated m) t.0 ++ (four_bins sign_bins t.1.0 ++ fixed_length 5 t.1.1)
 
 abbrev pub band_of : Four ℕ × (Four ℤ × ℕ) → Offsets
-band_of t = let z = t.1.0 in Band t.1.1 z.0 z.1.0 z.1.1.0 z.1.1.1
+band_of t = Band t.1.1 t.1.0
 
 pub band_to : (m : ℕ) (t : Four ℕ × (Four ℤ × ℕ)) → Banded m t → Typed m 1 (band_of t) × (band_bins m t ≡ rest m (band_of t))
 unfolding rest magnitudes signs
 band_to m t (i, (j, k)) =
-    let same : t.0 ≡ sizes t.1.0 = λ n. (sym j.0 n, (sym j.1.0 n, (sym j.1.1.0 n, sym j.1.1.1 n))) in
+    let same : t.0 ≡ sizes t.1.0 = λ n. four (sym j.0 n) (sym j.1.0 n) (sym j.1.1.0 n) (sym j.1.1.1 n) in
     (((small (subst (AllAtMost m) same i), k), refl), ap (λ (f : Four ℕ). band_bins m (f, t.1)) same)
 
 pub band_from : (m : ℕ) (c : Offsets) → Typed m 1 c → (t : Four ℕ × (Four ℤ × ℕ)) × (band_of t ≡ c) × Banded m t
 band_from m Off i = absurd (omega (arith, i.1))
-band_from m (Band position o1 o2 o3 o4) i =
-    let z : Four ℤ = (o1, (o2, (o3, o4))) in
-    ((sizes z, (z, position)), refl, (all_at_most i.0.0, ((refl, (refl, (refl, refl))), i.0.1)))
-band_from m (Edge class o1 o2 o3 o4) i = absurd (omega (arith, i.1))
+band_from m (Band position o) i = ((sizes o, (o, position)), refl, (all_at_most i.0.0, ((refl, (refl, (refl, refl))), i.0.1)))
+band_from m (Edge class o) i = absurd (omega (arith, i.1))
 
 unfoldable pub band_code : (m : ℕ) → Code (Spelled (Typed m 1) (rest m))
 unfolding said_of in_turn magnitudes_code signs_code fixed_code
@@ -92,49 +88,43 @@ minus_back (pos (suc n)) h = absurd h
 minus_back (negsuc n) h = refl
 
 abbrev pub EdgeFour : ℕ → Four ℤ → Type 0
-EdgeFour m z = SmallFour m z × EdgeSigns z.0 z.1.0 z.1.1.0 z.1.1.1
-
-abbrev pub size_bins : ℕ → Four ℤ → List Bool
-size_bins m z = magnitudes m z.0 z.1.0 z.1.1.0 z.1.1.1
+EdgeFour m o = Small m o × EdgeSigns o
 
 abbrev pub edge_signed : Four ℕ → Four ℤ
-edge_signed t = (pos t.0, (pos t.1.0, (neg_ℤ (pos t.1.1.0), neg_ℤ (pos t.1.1.1))))
+edge_signed t = four (pos t.o1) (pos t.o2) (neg_ℤ (pos t.o3)) (neg_ℤ (pos t.o4))
 
-pub edge_signs_to : (m : ℕ) (t : Four ℕ) → AllAtMost m t → EdgeFour m (edge_signed t) × (four_bins m t ≡ size_bins m (edge_signed t))
+pub edge_signs_to : (m : ℕ) (t : Four ℕ) → AllAtMost m t → EdgeFour m (edge_signed t) × (four_bins (truncated m) t ≡ magnitudes m (edge_signed t))
 unfolding magnitudes
 edge_signs_to m t i =
-    let same : t ≡ sizes (edge_signed t) = λ n. (t.0, (t.1.0, (sym (abs_minus t.1.1.0) n, sym (abs_minus t.1.1.1) n))) in (
-      (small (subst (AllAtMost m) same i), record { s1 = tt; s2 = tt; s3 = minus_not_positive t.1.1.0; s4 = minus_not_positive t.1.1.1 }),
-      ap (four_bins m) same,
+    let same : t ≡ sizes (edge_signed t) = λ n. four t.o1 t.o2 (sym (abs_minus t.o3) n) (sym (abs_minus t.o4) n) in (
+      (small (subst (AllAtMost m) same i), record { s1 = tt; s2 = tt; s3 = minus_not_positive t.o3; s4 = minus_not_positive t.o4 }),
+      ap (four_bins (truncated m)) same,
     )
 
-pub edge_signs_from : (m : ℕ) (z : Four ℤ) → EdgeFour m z → (t : Four ℕ) × (edge_signed t ≡ z) × AllAtMost m t
-edge_signs_from m z (i, j) = (
-  sizes z,
-  λ n. (plus_back z.0 j.s1 n, (plus_back z.1.0 j.s2 n, (minus_back z.1.1.0 j.s3 n, minus_back z.1.1.1 j.s4 n))),
+pub edge_signs_from : (m : ℕ) (o : Four ℤ) → EdgeFour m o → (t : Four ℕ) × (edge_signed t ≡ o) × AllAtMost m t
+edge_signs_from m o (i, j) = (
+  sizes o,
+  λ n. four (plus_back o.o1 j.s1 n) (plus_back o.o2 j.s2 n) (minus_back o.o3 j.s3 n) (minus_back o.o4 j.s4 n),
   all_at_most i,
 )
 
-unfoldable pub edge_signed_code : (m : ℕ) → Code (Spelled (EdgeFour m) (size_bins m))
+unfoldable pub edge_signed_code : (m : ℕ) → Code (Spelled (EdgeFour m) (magnitudes m))
 unfolding said_of magnitudes_code
 edge_signed_code m = said_of (magnitudes_code m) edge_signed (edge_signs_to m) (edge_signs_from m)
 
-abbrev pub edge_of : ℕ → Four ℤ → Offsets
-edge_of class z = Edge class z.0 z.1.0 z.1.1.0 z.1.1.1
-
 pub edge_to : (m : ℕ) (t : Four ℤ × ℕ) → EdgeFour m t.0 × Below 2 t.1
-    → Typed m 2 (edge_of t.1 t.0) × (size_bins m t.0 ++ fixed_length 2 t.1 ≡ rest m (edge_of t.1 t.0))
+    → Typed m 2 (Edge t.1 t.0) × (magnitudes m t.0 ++ fixed_length 2 t.1 ≡ rest m (Edge t.1 t.0))
 unfolding rest
 edge_to m t (i, k) = (((i.0, k, i.1), refl), refl)
 
-pub edge_from : (m : ℕ) (c : Offsets) → Typed m 2 c → (t : Four ℤ × ℕ) × (edge_of t.1 t.0 ≡ c) × (EdgeFour m t.0 × Below 2 t.1)
+pub edge_from : (m : ℕ) (c : Offsets) → Typed m 2 c → (t : Four ℤ × ℕ) × (Edge t.1 t.0 ≡ c) × (EdgeFour m t.0 × Below 2 t.1)
 edge_from m Off i = absurd (omega (arith, i.1))
-edge_from m (Band position o1 o2 o3 o4) i = absurd (omega (arith, i.1))
-edge_from m (Edge class o1 o2 o3 o4) i = (((o1, (o2, (o3, o4))), class), refl, ((i.0.0, i.0.2), i.0.1))
+edge_from m (Band position o) i = absurd (omega (arith, i.1))
+edge_from m (Edge class o) i = ((o, class), refl, ((i.0.0, i.0.2), i.0.1))
 
 unfoldable pub edge_code : (m : ℕ) → Code (Spelled (Typed m 2) (rest m))
 unfolding said_of in_turn edge_signed_code fixed_code
-edge_code m = said_of (in_turn (edge_signed_code m) (λ z. fixed_code 2)) (λ t. edge_of t.1 t.0) (edge_to m) (edge_from m)
+edge_code m = said_of (in_turn (edge_signed_code m) (λ z. fixed_code 2)) (λ t. Edge t.1 t.0) (edge_to m) (edge_from m)
 
 -- ---- luma or Cb: its type, and what follows
 
@@ -151,13 +141,13 @@ kind_type (suc (suc n)) h = omega (arith, h)
 
 type_kind : (c : Offsets) → type_idx c ≡ kind (type_idx c)
 type_kind Off = refl
-type_kind (Band position o1 o2 o3 o4) = refl
-type_kind (Edge class o1 o2 o3 o4) = refl
+type_kind (Band position o) = refl
+type_kind (Edge class o) = refl
 
 type_small : (c : Offsets) → type_idx c ≤ 2
 type_small Off = omega arith
-type_small (Band position o1 o2 o3 o4) = omega arith
-type_small (Edge class o1 o2 o3 o4) = omega arith
+type_small (Band position o) = omega arith
+type_small (Edge class o) = omega arith
 
 abbrev pub component_bins : ℕ → Offsets → List Bool
 component_bins m c = type_bins c ++ rest m c
@@ -178,8 +168,8 @@ component_code m = said_of (in_turn (truncated_code 2) (rest_code m)) (λ t. t.1
 -- all but the rule of the class, which is Cb's
 abbrev pub CrFits : ℕ → Offsets → Type 0
 CrFits m Off = Unit {0}
-CrFits m (Band position o1 o2 o3 o4) = Small m o1 o2 o3 o4 × (position < 32)
-CrFits m (Edge class o1 o2 o3 o4) = Small m o1 o2 o3 o4 × EdgeSigns o1 o2 o3 o4
+CrFits m (Band position o) = Small m o × (position < 32)
+CrFits m (Edge class o) = Small m o × EdgeSigns o
 
 abbrev pub After : ℕ → Offsets → Offsets → Type 0
 After m cb c = CrFits m c × Shares cb c
@@ -190,35 +180,34 @@ cr_off_to m c e = subst (λ (c : Offsets). After m Off c × (◌≡◌ {A = List
 
 pub cr_off_from : (m : ℕ) (c : Offsets) → After m Off c → (a : Offsets) × (a ≡ c) × (a ≡ Off)
 cr_off_from m Off i = (Off, refl, refl)
-cr_off_from m (Band position o1 o2 o3 o4) i = absurd i.1
-cr_off_from m (Edge class o1 o2 o3 o4) i = absurd i.1
+cr_off_from m (Band position o) i = absurd i.1
+cr_off_from m (Edge class o) i = absurd i.1
 
-pub cr_band_to : (m p : ℕ) (v1 v2 v3 v4 : ℤ) (c : Offsets) → Typed m 1 c → After m (Band p v1 v2 v3 v4) c × (rest m c ≡ rest_of_cr m c)
+pub cr_band_to : (m p : ℕ) (v : Four ℤ) (c : Offsets) → Typed m 1 c → After m (Band p v) c × (rest m c ≡ rest_of_cr m c)
 unfolding rest rest_of_cr
-cr_band_to m p v1 v2 v3 v4 Off i = absurd (omega (arith, i.1))
-cr_band_to m p v1 v2 v3 v4 (Band position o1 o2 o3 o4) i = ((i.0, tt), refl)
-cr_band_to m p v1 v2 v3 v4 (Edge class o1 o2 o3 o4) i = absurd (omega (arith, i.1))
+cr_band_to m p v Off i = absurd (omega (arith, i.1))
+cr_band_to m p v (Band position o) i = ((i.0, tt), refl)
+cr_band_to m p v (Edge class o) i = absurd (omega (arith, i.1))
 
-pub cr_band_from : (m p : ℕ) (v1 v2 v3 v4 : ℤ) (c : Offsets) → After m (Band p v1 v2 v3 v4) c → (a : Offsets) × (a ≡ c) × Typed m 1 a
-cr_band_from m p v1 v2 v3 v4 Off i = absurd i.1
-cr_band_from m p v1 v2 v3 v4 (Band position o1 o2 o3 o4) i = (Band position o1 o2 o3 o4, refl, (i.0, refl))
-cr_band_from m p v1 v2 v3 v4 (Edge class o1 o2 o3 o4) i = absurd i.1
+pub cr_band_from : (m p : ℕ) (v : Four ℤ) (c : Offsets) → After m (Band p v) c → (a : Offsets) × (a ≡ c) × Typed m 1 a
+cr_band_from m p v Off i = absurd i.1
+cr_band_from m p v (Band position o) i = (Band position o, refl, (i.0, refl))
+cr_band_from m p v (Edge class o) i = absurd i.1
 
-pub cr_edge_to : (m k : ℕ) (v1 v2 v3 v4 : ℤ) (z : Four ℤ) → EdgeFour m z
-    → After m (Edge k v1 v2 v3 v4) (edge_of k z) × (size_bins m z ≡ rest_of_cr m (edge_of k z))
+pub cr_edge_to : (m k : ℕ) (v o : Four ℤ) → EdgeFour m o → After m (Edge k v) (Edge k o) × (magnitudes m o ≡ rest_of_cr m (Edge k o))
 unfolding rest_of_cr
-cr_edge_to m k v1 v2 v3 v4 z i = ((i, refl), refl)
+cr_edge_to m k v o i = ((i, refl), refl)
 
-pub cr_edge_from : (m k : ℕ) (v1 v2 v3 v4 : ℤ) (c : Offsets) → After m (Edge k v1 v2 v3 v4) c → (z : Four ℤ) × (edge_of k z ≡ c) × EdgeFour m z
-cr_edge_from m k v1 v2 v3 v4 Off i = absurd i.1
-cr_edge_from m k v1 v2 v3 v4 (Band position o1 o2 o3 o4) i = absurd i.1
-cr_edge_from m k v1 v2 v3 v4 (Edge class o1 o2 o3 o4) i = ((o1, (o2, (o3, o4))), ap (λ (n : ℕ). Edge n o1 o2 o3 o4) i.1, i.0)
+pub cr_edge_from : (m k : ℕ) (v : Four ℤ) (c : Offsets) → After m (Edge k v) c → (o : Four ℤ) × (Edge k o ≡ c) × EdgeFour m o
+cr_edge_from m k v Off i = absurd i.1
+cr_edge_from m k v (Band position o) i = absurd i.1
+cr_edge_from m k v (Edge class o) i = (o, ap (λ (n : ℕ). Edge n o) i.1, i.0)
 
 unfoldable pub cr_code : (m : ℕ) (cb : Offsets) → Code (Spelled (After m cb) (rest_of_cr m))
 unfolding said_of pure band_code edge_signed_code
 cr_code m Off = said_of (pure Off) (λ c. c) (cr_off_to m) (cr_off_from m)
-cr_code m (Band p v1 v2 v3 v4) = said_of (band_code m) (λ c. c) (cr_band_to m p v1 v2 v3 v4) (cr_band_from m p v1 v2 v3 v4)
-cr_code m (Edge k v1 v2 v3 v4) = said_of (edge_signed_code m) (edge_of k) (cr_edge_to m k v1 v2 v3 v4) (cr_edge_from m k v1 v2 v3 v4)
+cr_code m (Band p v) = said_of (band_code m) (λ c. c) (cr_band_to m p v) (cr_band_from m p v)
+cr_code m (Edge k v) = said_of (edge_signed_code m) (λ o. Edge k o) (cr_edge_to m k v) (cr_edge_from m k v)
 
 -- ---- Cb and Cr, whose largest magnitudes are m and n
 
@@ -231,15 +220,15 @@ chroma_bins m n t = type_bins t.0 ++ (rest m t.0 ++ rest_of_cr n t.1)
 -- Cb within the rules, and Cr too but for its class, which it shares
 whole_cr : (m n : ℕ) (cb cr : Offsets) → Fits m cb → CrFits n cr → Shares cb cr → Fits n cr
 whole_cr m n cb Off f i s = tt
-whole_cr m n cb (Band position o1 o2 o3 o4) f i s = i
-whole_cr m n Off (Edge class o1 o2 o3 o4) f i s = absurd s
-whole_cr m n (Band p v1 v2 v3 v4) (Edge class o1 o2 o3 o4) f i s = absurd s
-whole_cr m n (Edge k v1 v2 v3 v4) (Edge class o1 o2 o3 o4) f i s = (i.0, subst (λ (k : ℕ). k < 4) s f.1, i.1)
+whole_cr m n cb (Band position o) f i s = i
+whole_cr m n Off (Edge class o) f i s = absurd s
+whole_cr m n (Band p v) (Edge class o) f i s = absurd s
+whole_cr m n (Edge k v) (Edge class o) f i s = (i.0, subst (λ (k : ℕ). k < 4) s f.1, i.1)
 
 but_class : (n : ℕ) (cr : Offsets) → Fits n cr → CrFits n cr
 but_class n Off f = tt
-but_class n (Band position o1 o2 o3 o4) f = f
-but_class n (Edge class o1 o2 o3 o4) f = (f.0, f.2)
+but_class n (Band position o) f = f
+but_class n (Edge class o) f = (f.0, f.2)
 
 pub chroma_to : (m n : ℕ) (t : Offsets × Offsets) → Fits m t.0 × After n t.0 t.1
     → ChromaFits m n t × (component_bins m t.0 ++ rest_of_cr n t.1 ≡ chroma_bins m n t)

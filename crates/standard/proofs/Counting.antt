@@ -61,5 +61,5 @@ pub keeping : (l : Layout) (context : Context) (set : Offsets) (plane : List ℕ
     → sample l context set plane x y ≡ cond (context.kept x y) (at plane l.width x y) (sample l (record { counts = context.counts; kept = λ x y. false }) set plane x y)
 unfolding sample modified neighbour
 keeping l context Off plane x y = refl
-keeping l context (Band position o1 o2 o3 o4) plane x y = refl
-keeping l context (Edge class o1 o2 o3 o4) plane x y = refl
+keeping l context (Band position o) plane x y = refl
+keeping l context (Edge class o) plane x y = refl

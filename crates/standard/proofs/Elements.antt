@@ -9,6 +9,8 @@ use native.Mathlib.Omega.{arith}
 use lib.Dec.{eqb}
 use lib.IntN.{ℤ, pos, negsuc, nat_abs}
 use lib.Pow.{high, pow_pos}
+use Rattle.standard.specs.declared.Four.{Four}
+use Rattle.standard.specs.Sets.{four}
 use Rattle.standard.specs.Bins.{truncated, fixed_length, sign_bins}
 use Rattle.standard.proofs.Codes.{Code, Spelled, pure, bit, in_turn, said_of}
 
@@ -143,27 +145,29 @@ unfolding said_of bit pure
 sign_code zero = said_of (pure (pos 0)) (λ z. z) no_sign_to no_sign_from
 sign_code (suc n) = said_of bit (with_sign n) (sign_to n) (sign_from n)
 
--- ---- four magnitudes, and four signs
+-- ---- one for each of the four offsets, in turn
 
-abbrev pub Four : Type 0 → Type 0
-Four A = A × (A × (A × A))
+abbrev pub four_bins : {A : Type 0} → (A → List Bool) → Four A → List Bool
+four_bins f o = f o.o1 ++ (f o.o2 ++ (f o.o3 ++ f o.o4))
+
+module _ {A : Type 0} {P1 P2 P3 P4 : A → Type 0} {f : A → List Bool}
+    (c1 : Code (Spelled P1 f)) (c2 : Code (Spelled P2 f)) (c3 : Code (Spelled P3 f)) (c4 : Code (Spelled P4 f)) where
+  unfoldable pub four_code : Code (Spelled (λ (o : Four A). P1 o.o1 × (P2 o.o2 × (P3 o.o3 × P4 o.o4))) (four_bins f))
+  unfolding said_of in_turn
+  four_code =
+      said_of (in_turn c1 (λ a. in_turn c2 (λ b. in_turn c3 (λ d. c4)))) (λ t. four t.0 t.1.0 t.1.1.0 t.1.1.1)
+      (λ t i. (i, refl)) (λ o i. ((o.o1, (o.o2, (o.o3, o.o4))), refl, i))
 
 abbrev pub AllAtMost : ℕ → Four ℕ → Type 0
-AllAtMost m t = (t.0 ≤ m) × ((t.1.0 ≤ m) × ((t.1.1.0 ≤ m) × (t.1.1.1 ≤ m)))
+AllAtMost m t = (t.o1 ≤ m) × ((t.o2 ≤ m) × ((t.o3 ≤ m) × (t.o4 ≤ m)))
 
-abbrev pub four_bins : ℕ → Four ℕ → List Bool
-four_bins m t = truncated m t.0 ++ (truncated m t.1.0 ++ (truncated m t.1.1.0 ++ truncated m t.1.1.1))
-
-unfoldable pub magnitudes_code : (m : ℕ) → Code (Spelled (AllAtMost m) (four_bins m))
-unfolding in_turn truncated_code
-magnitudes_code m = let c = truncated_code m in in_turn c (λ a. in_turn c (λ b. in_turn c (λ d. c)))
+unfoldable pub magnitudes_code : (m : ℕ) → Code (Spelled (AllAtMost m) (four_bins (truncated m)))
+unfolding four_code truncated_code
+magnitudes_code m = let c = truncated_code m in four_code c c c c
 
 abbrev pub AllSized : Four ℕ → Four ℤ → Type 0
-AllSized t z = (nat_abs z.0 ≡ t.0) × ((nat_abs z.1.0 ≡ t.1.0) × ((nat_abs z.1.1.0 ≡ t.1.1.0) × (nat_abs z.1.1.1 ≡ t.1.1.1)))
+AllSized t o = (nat_abs o.o1 ≡ t.o1) × ((nat_abs o.o2 ≡ t.o2) × ((nat_abs o.o3 ≡ t.o3) × (nat_abs o.o4 ≡ t.o4)))
 
-abbrev pub four_signs : Four ℤ → List Bool
-four_signs z = sign_bins z.0 ++ (sign_bins z.1.0 ++ (sign_bins z.1.1.0 ++ sign_bins z.1.1.1))
-
-unfoldable pub signs_code : (t : Four ℕ) → Code (Spelled (AllSized t) four_signs)
-unfolding in_turn sign_code
-signs_code t = in_turn (sign_code t.0) (λ a. in_turn (sign_code t.1.0) (λ b. in_turn (sign_code t.1.1.0) (λ d. sign_code t.1.1.1)))
+unfoldable pub signs_code : (t : Four ℕ) → Code (Spelled (AllSized t) (four_bins sign_bins))
+unfolding four_code sign_code
+signs_code t = four_code (sign_code t.o1) (sign_code t.o2) (sign_code t.o3) (sign_code t.o4)

@@ -10,11 +10,12 @@ use borrow.Author.Tests.{lt-ltb, le-ltb}
 use lib.IntN.{ℤ, pos, negsuc, nat_abs}
 use lib.ListN.{length, take, drop, length-append, length-drop, take-append-drop}
 use lib.Seq.{take_at, drop_at, take-append-le, drop-append-le, drop-append-add, drop-drop, length-take-le}
+use Rattle.standard.specs.declared.Four.{Four}
 use Rattle.standard.specs.declared.Offsets.{Offsets}
 use Rattle.standard.specs.declared.Offsets.TheVariants.{Off, Band, Edge}
 use Rattle.standard.specs.declared.CtuSet.{CtuSet}
 use Rattle.standard.specs.declared.Switches.{Switches}
-use Rattle.standard.specs.Sets.{depth_in, most, Small, Fits, Shares, Ruled, Valid}
+use Rattle.standard.specs.Sets.{depth_in, most, four, Small, Fits, Shares, Ruled, Valid}
 use Rattle.standard.specs.Table.{set_size, entry_size, offset_byte, offset_of, encode_offsets, encode, encode_entry, entry, entered, Sound, decode_offsets, decode, stored}
 use Rattle.standard.proofs.Depths.{largest_at_most_31}
 
@@ -22,8 +23,8 @@ use Rattle.standard.proofs.Depths.{largest_at_most_31}
 
 abbrev pub ByteOffsets : Offsets → Type 0
 ByteOffsets Off = Unit {0}
-ByteOffsets (Band position o1 o2 o3 o4) = Small 128 o1 o2 o3 o4
-ByteOffsets (Edge class o1 o2 o3 o4) = Small 128 o1 o2 o3 o4
+ByteOffsets (Band position o) = Small 128 o
+ByteOffsets (Edge class o) = Small 128 o
 
 pub record Bytes (q : CtuSet) : Type 0 where
   pub luma : ByteOffsets q.luma
@@ -32,8 +33,8 @@ pub record Bytes (q : CtuSet) : Type 0 where
 
 pub fits_bytes : (m : ℕ) (c : Offsets) → m ≤ 128 → Fits m c → ByteOffsets c
 fits_bytes m Off h f = tt
-fits_bytes m (Band position o1 o2 o3 o4) h f = omega arith
-fits_bytes m (Edge class o1 o2 o3 o4) h f = omega arith
+fits_bytes m (Band position o) h f = omega arith
+fits_bytes m (Edge class o) h f = omega arith
 
 most_bytes : (s : Switches) (i : ℕ) (c : Offsets) → Fits (most s i) c → ByteOffsets c
 most_bytes s i c f = fits_bytes (most s i) c (omega (arith, largest_at_most_31 (depth_in s i))) f
@@ -62,19 +63,23 @@ pub offset_back : (o : ℤ) → nat_abs o ≤ 128 → offset_of (offset_byte o) 
 offset_back (pos n) h = rw (le-ltb (128 + n) 128 (omega arith)) (ap pos (omega arith))
 offset_back (negsuc n) h = rw (lt-ltb (127 - n) 128 (omega arith)) (ap negsuc (omega arith))
 
+four_offsets_back : (o : Four ℤ) → Small 128 o
+    → four (offset_of (offset_byte o.o1)) (offset_of (offset_byte o.o2)) (offset_of (offset_byte o.o3)) (offset_of (offset_byte o.o4)) ≡ o
+four_offsets_back o h i = four (offset_back o.o1 h.m1 i) (offset_back o.o2 h.m2 i) (offset_back o.o3 h.m3 i) (offset_back o.o4 h.m4 i)
+
 pub offsets_back : (c : Offsets) → ByteOffsets c → (r : List ℕ) → decode_offsets (encode_offsets c ++ r) ≡ c
 unfolding decode_offsets encode_offsets
 offsets_back Off h r = refl
-offsets_back (Band position o1 o2 o3 o4) h r =
-    λ i. Band position (offset_back o1 h.m1 i) (offset_back o2 h.m2 i) (offset_back o3 h.m3 i) (offset_back o4 h.m4 i)
-offsets_back (Edge class o1 o2 o3 o4) h r =
-    λ i. Edge class (offset_back o1 h.m1 i) (offset_back o2 h.m2 i) (offset_back o3 h.m3 i) (offset_back o4 h.m4 i)
+offsets_back (Band position o) h r =
+    λ i. Band position (four_offsets_back o h i)
+offsets_back (Edge class o) h r =
+    λ i. Edge class (four_offsets_back o h i)
 
 pub offsets_length : (c : Offsets) → length (encode_offsets c) ≡ 6
 unfolding encode_offsets
 offsets_length Off = refl
-offsets_length (Band position o1 o2 o3 o4) = refl
-offsets_length (Edge class o1 o2 o3 o4) = refl
+offsets_length (Band position o) = refl
+offsets_length (Edge class o) = refl
 
 pub encode_length : (q : CtuSet) → length (encode q) ≡ set_size
 unfolding encode

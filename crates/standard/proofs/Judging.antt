@@ -7,12 +7,13 @@ use Prim.Native.Nat.{ℕ, zero, suc, ◌+◌, ◌%◌, ◌/◌}
 use native.Mathlib.Decide.{ℕ_discrete, dec_le, dec_lt}
 use lib.IntN.{ℤ, pos, negsuc, nat_abs}
 use Rattle.standard.specs.declared.Picture.{Picture}
+use Rattle.standard.specs.declared.Four.{Four}
 use Rattle.standard.specs.declared.Offsets.{Offsets}
 use Rattle.standard.specs.declared.Offsets.TheVariants.{Off, Band, Edge}
 use Rattle.standard.specs.declared.CtuSet.{CtuSet}
 use Rattle.standard.specs.Picture.{Side, Depth, Rules, columns, ctu_count, Adjacent}
 use Rattle.standard.specs.declared.Switches.{Switches}
-use Rattle.standard.specs.Sets.{most, NotNegative, NotPositive, Small, EdgeSigns, Fits, Shares, Ruled, Valid}
+use Rattle.standard.specs.Sets.{most, four, NotNegative, NotPositive, Small, EdgeSigns, Fits, Shares, Ruled, Valid}
 use Rattle.standard.proofs.Decisions.{differ, by_iff, or?}
 
 -- ---- a description
@@ -73,11 +74,11 @@ adjacent? p k j =
 
 -- ---- a set
 
-small? : (m : ℕ) (o1 o2 o3 o4 : ℤ) → Dec (Small m o1 o2 o3 o4)
+small? : (m : ℕ) (o : Four ℤ) → Dec (Small m o)
 unfolding Dec.and
-small? m o1 o2 o3 o4 =
+small? m o =
     by_iff (λ t. record { m1 = t.0; m2 = t.1.0; m3 = t.1.1.0; m4 = t.1.1.1 }) (λ s. (s.m1, (s.m2, (s.m3, s.m4))))
-    (Dec.and (dec_le (nat_abs o1) m) (Dec.and (dec_le (nat_abs o2) m) (Dec.and (dec_le (nat_abs o3) m) (dec_le (nat_abs o4) m))))
+    (Dec.and (dec_le (nat_abs o.o1) m) (Dec.and (dec_le (nat_abs o.o2) m) (Dec.and (dec_le (nat_abs o.o3) m) (dec_le (nat_abs o.o4) m))))
 
 not_negative? : (z : ℤ) → Dec (NotNegative z)
 not_negative? (pos n) = yes tt
@@ -88,29 +89,29 @@ not_positive? (pos zero) = yes tt
 not_positive? (pos (suc n)) = no (λ b. b)
 not_positive? (negsuc n) = yes tt
 
-edge_signs? : (o1 o2 o3 o4 : ℤ) → Dec (EdgeSigns o1 o2 o3 o4)
+edge_signs? : (o : Four ℤ) → Dec (EdgeSigns o)
 unfolding Dec.and not_negative? not_positive?
-edge_signs? o1 o2 o3 o4 =
+edge_signs? o =
     by_iff (λ t. record { s1 = t.0; s2 = t.1.0; s3 = t.1.1.0; s4 = t.1.1.1 }) (λ s. (s.s1, (s.s2, (s.s3, s.s4))))
-    (Dec.and (not_negative? o1) (Dec.and (not_negative? o2) (Dec.and (not_positive? o3) (not_positive? o4))))
+    (Dec.and (not_negative? o.o1) (Dec.and (not_negative? o.o2) (Dec.and (not_positive? o.o3) (not_positive? o.o4))))
 
 unfoldable pub fits? : (m : ℕ) (c : Offsets) → Dec (Fits m c)
 unfolding small? edge_signs? Dec.and
 fits? m Off = yes tt
-fits? m (Band position o1 o2 o3 o4) = Dec.and (small? m o1 o2 o3 o4) (dec_lt position 32)
-fits? m (Edge class o1 o2 o3 o4) =
-    by_iff (λ t. (t.0, t.1.0, t.1.1)) (λ t. (t.0, (t.1, t.2))) (Dec.and (small? m o1 o2 o3 o4) (Dec.and (dec_lt class 4) (edge_signs? o1 o2 o3 o4)))
+fits? m (Band position o) = Dec.and (small? m o) (dec_lt position 32)
+fits? m (Edge class o) =
+    by_iff (λ t. (t.0, t.1.0, t.1.1)) (λ t. (t.0, (t.1, t.2))) (Dec.and (small? m o) (Dec.and (dec_lt class 4) (edge_signs? o)))
 
 shares? : (a b : Offsets) → Dec (Shares a b)
 shares? Off Off = yes tt
-shares? Off (Band p o1 o2 o3 o4) = no (λ b. b)
-shares? Off (Edge k o1 o2 o3 o4) = no (λ b. b)
-shares? (Band p a1 a2 a3 a4) Off = no (λ b. b)
-shares? (Band p a1 a2 a3 a4) (Band q b1 b2 b3 b4) = yes tt
-shares? (Band p a1 a2 a3 a4) (Edge k b1 b2 b3 b4) = no (λ b. b)
-shares? (Edge k a1 a2 a3 a4) Off = no (λ b. b)
-shares? (Edge k a1 a2 a3 a4) (Band q b1 b2 b3 b4) = no (λ b. b)
-shares? (Edge k a1 a2 a3 a4) (Edge j b1 b2 b3 b4) = ℕ_discrete k j
+shares? Off (Band p o) = no (λ b. b)
+shares? Off (Edge k o) = no (λ b. b)
+shares? (Band p a) Off = no (λ b. b)
+shares? (Band p a) (Band q b) = yes tt
+shares? (Band p a) (Edge k b) = no (λ b. b)
+shares? (Edge k a) Off = no (λ b. b)
+shares? (Edge k a) (Band q b) = no (λ b. b)
+shares? (Edge k a) (Edge j b) = ℕ_discrete k j
 
 -- ---- equality of sets
 
@@ -120,27 +121,26 @@ same_ℤ? (pos a) (negsuc b) = no (λ e. differ (cc))
 same_ℤ? (negsuc a) (pos b) = no (λ e. differ (cc))
 same_ℤ? (negsuc a) (negsuc b) = by_iff (λ e. ap negsuc e) (λ e. cc) (ℕ_discrete a b)
 
-abbrev Same : ℕ → ℤ → ℤ → ℤ → ℤ → ℕ → ℤ → ℤ → ℤ → ℤ → Type 0
-Same k a1 a2 a3 a4 j b1 b2 b3 b4 = (k ≡ j) × ((a1 ≡ b1) × ((a2 ≡ b2) × ((a3 ≡ b3) × (a4 ≡ b4))))
-
-same? : (k : ℕ) (a1 a2 a3 a4 : ℤ) (j : ℕ) (b1 b2 b3 b4 : ℤ) → Dec (Same k a1 a2 a3 a4 j b1 b2 b3 b4)
+same_four? : (a b : Four ℤ) → Dec (a ≡ b)
 unfolding same_ℤ? Dec.and
-same? k a1 a2 a3 a4 j b1 b2 b3 b4 =
-    Dec.and (ℕ_discrete k j) (Dec.and (same_ℤ? a1 b1) (Dec.and (same_ℤ? a2 b2) (Dec.and (same_ℤ? a3 b3) (same_ℤ? a4 b4))))
+same_four? a b =
+    by_iff (λ t n. four (t.0 n) (t.1.0 n) (t.1.1.0 n) (t.1.1.1 n))
+    (λ e. (ap (λ (o : Four ℤ). o.o1) e, (ap (λ (o : Four ℤ). o.o2) e, (ap (λ (o : Four ℤ). o.o3) e, ap (λ (o : Four ℤ). o.o4) e))))
+    (Dec.and (same_ℤ? a.o1 b.o1) (Dec.and (same_ℤ? a.o2 b.o2) (Dec.and (same_ℤ? a.o3 b.o3) (same_ℤ? a.o4 b.o4))))
 
 unfoldable pub same_offsets? : (a b : Offsets) → Dec (a ≡ b)
-unfolding same?
+unfolding same_four? Dec.and
 same_offsets? Off Off = yes refl
-same_offsets? Off (Band p o1 o2 o3 o4) = no (λ e. differ (cc))
-same_offsets? Off (Edge k o1 o2 o3 o4) = no (λ e. differ (cc))
-same_offsets? (Band p a1 a2 a3 a4) Off = no (λ e. differ (cc))
-same_offsets? (Band p a1 a2 a3 a4) (Band q b1 b2 b3 b4) =
-    by_iff (λ t n. Band (t.0 n) (t.1.0 n) (t.1.1.0 n) (t.1.1.1.0 n) (t.1.1.1.1 n)) (λ e. (cc, (cc, (cc, (cc, cc))))) (same? p a1 a2 a3 a4 q b1 b2 b3 b4)
-same_offsets? (Band p a1 a2 a3 a4) (Edge k b1 b2 b3 b4) = no (λ e. differ (cc))
-same_offsets? (Edge k a1 a2 a3 a4) Off = no (λ e. differ (cc))
-same_offsets? (Edge k a1 a2 a3 a4) (Band q b1 b2 b3 b4) = no (λ e. differ (cc))
-same_offsets? (Edge k a1 a2 a3 a4) (Edge j b1 b2 b3 b4) =
-    by_iff (λ t n. Edge (t.0 n) (t.1.0 n) (t.1.1.0 n) (t.1.1.1.0 n) (t.1.1.1.1 n)) (λ e. (cc, (cc, (cc, (cc, cc))))) (same? k a1 a2 a3 a4 j b1 b2 b3 b4)
+same_offsets? Off (Band p o) = no (λ e. differ (cc))
+same_offsets? Off (Edge k o) = no (λ e. differ (cc))
+same_offsets? (Band p a) Off = no (λ e. differ (cc))
+same_offsets? (Band p a) (Band q b) =
+    by_iff (λ t n. Band (t.0 n) (t.1 n)) (λ e. (cc, cc)) (Dec.and (ℕ_discrete p q) (same_four? a b))
+same_offsets? (Band p a) (Edge k b) = no (λ e. differ (cc))
+same_offsets? (Edge k a) Off = no (λ e. differ (cc))
+same_offsets? (Edge k a) (Band q b) = no (λ e. differ (cc))
+same_offsets? (Edge k a) (Edge j b) =
+    by_iff (λ t n. Edge (t.0 n) (t.1 n)) (λ e. (cc, cc)) (Dec.and (ℕ_discrete k j) (same_four? a b))
 
 unfoldable pub same_set? : (a b : CtuSet) → Dec (a ≡ b)
 unfolding same_offsets? Dec.and

@@ -10,12 +10,13 @@ use native.Mathlib.Omega.{arith}
 use lib.Dec.{lit<, lit≤}
 use lib.IntN.{ℤ, pos, negsuc, nat_abs}
 use lib.ListN.{length, length-append}
+use Rattle.standard.specs.declared.Four.{Four}
 use Rattle.standard.specs.declared.Offsets.{Offsets}
 use Rattle.standard.specs.declared.Offsets.TheVariants.{Off, Band, Edge}
 use Rattle.standard.specs.declared.CtuSet.{CtuSet}
 use Rattle.standard.specs.declared.Picture.{Picture}
 use Rattle.standard.specs.declared.Switches.{Switches}
-use Rattle.standard.specs.Sets.{largest, most, Fits, Valid, switches_in}
+use Rattle.standard.specs.Sets.{largest, most, four, Fits, Valid, switches_in}
 use Rattle.standard.specs.Bins.{truncated, fixed_length, magnitudes, sign_bins, signs, type_bins, rest, rest_of_cr, when, full}
 use Rattle.standard.specs.Means.{either, not_taken, Means, no_bins, merged_left, merged_up, in_full}
 use Rattle.standard.proofs.Depths.{depth_of_luma, depth_of_chroma, largest_8, largest_is_31, largest_at_least_7}
@@ -51,43 +52,43 @@ sign_length (negsuc n) = omega arith
 four_length : (a b c d : List Bool) → length (a ++ (b ++ (c ++ d))) ≡ length a + length b + length c + length d
 four_length a b c d = omega (arith, length-append a (b ++ (c ++ d)), length-append b (c ++ d), length-append c d)
 
-pub magnitudes_length : (m : ℕ) (o1 o2 o3 o4 : ℤ)
-    → length (magnitudes m o1 o2 o3 o4) ≡ length (truncated m (nat_abs o1)) + length (truncated m (nat_abs o2)) + length (truncated m (nat_abs o3)) + length (truncated m (nat_abs o4))
+pub magnitudes_length : (m : ℕ) (o : Four ℤ)
+    → length (magnitudes m o) ≡ length (truncated m (nat_abs o.o1)) + length (truncated m (nat_abs o.o2)) + length (truncated m (nat_abs o.o3)) + length (truncated m (nat_abs o.o4))
 unfolding magnitudes
-magnitudes_length m o1 o2 o3 o4 = four_length (truncated m (nat_abs o1)) (truncated m (nat_abs o2)) (truncated m (nat_abs o3)) (truncated m (nat_abs o4))
+magnitudes_length m o = four_length (truncated m (nat_abs o.o1)) (truncated m (nat_abs o.o2)) (truncated m (nat_abs o.o3)) (truncated m (nat_abs o.o4))
 
-pub signs_length : (o1 o2 o3 o4 : ℤ) → length (signs o1 o2 o3 o4) ≡ length (sign_bins o1) + length (sign_bins o2) + length (sign_bins o3) + length (sign_bins o4)
+pub signs_length : (o : Four ℤ) → length (signs o) ≡ length (sign_bins o.o1) + length (sign_bins o.o2) + length (sign_bins o.o3) + length (sign_bins o.o4)
 unfolding signs
-signs_length o1 o2 o3 o4 = four_length (sign_bins o1) (sign_bins o2) (sign_bins o3) (sign_bins o4)
+signs_length o = four_length (sign_bins o.o1) (sign_bins o.o2) (sign_bins o.o3) (sign_bins o.o4)
 
-magnitudes_most : (m : ℕ) (o1 o2 o3 o4 : ℤ) → length (magnitudes m o1 o2 o3 o4) ≤ 4 * m
-magnitudes_most m o1 o2 o3 o4 =
-    omega (arith, magnitudes_length m o1 o2 o3 o4, truncated_length m (nat_abs o1), truncated_length m (nat_abs o2), truncated_length m (nat_abs o3), truncated_length m (nat_abs o4))
+magnitudes_most : (m : ℕ) (o : Four ℤ) → length (magnitudes m o) ≤ 4 * m
+magnitudes_most m o =
+    omega (arith, magnitudes_length m o, truncated_length m (nat_abs o.o1), truncated_length m (nat_abs o.o2), truncated_length m (nat_abs o.o3), truncated_length m (nat_abs o.o4))
 
-signs_most : (o1 o2 o3 o4 : ℤ) → length (signs o1 o2 o3 o4) ≤ 4
-signs_most o1 o2 o3 o4 = omega (arith, signs_length o1 o2 o3 o4, sign_length o1, sign_length o2, sign_length o3, sign_length o4)
+signs_most : (o : Four ℤ) → length (signs o) ≤ 4
+signs_most o = omega (arith, signs_length o, sign_length o.o1, sign_length o.o2, sign_length o.o3, sign_length o.o4)
 
 -- a band's bins after its type; Cr has the same
-band_length : (m position : ℕ) (o1 o2 o3 o4 : ℤ)
-    → length (magnitudes m o1 o2 o3 o4 ++ (signs o1 o2 o3 o4 ++ fixed_length 5 position)) ≡ length (magnitudes m o1 o2 o3 o4) + length (signs o1 o2 o3 o4) + 5
-band_length m position o1 o2 o3 o4 =
-    omega (arith, length-append (magnitudes m o1 o2 o3 o4) (signs o1 o2 o3 o4 ++ fixed_length 5 position), length-append (signs o1 o2 o3 o4) (fixed_length 5 position), fixed_length_lem 5 position)
+band_length : (m position : ℕ) (o : Four ℤ)
+    → length (magnitudes m o ++ (signs o ++ fixed_length 5 position)) ≡ length (magnitudes m o) + length (signs o) + 5
+band_length m position o =
+    omega (arith, length-append (magnitudes m o) (signs o ++ fixed_length 5 position), length-append (signs o) (fixed_length 5 position), fixed_length_lem 5 position)
 
-band_most : (m position : ℕ) (o1 o2 o3 o4 : ℤ) → length (magnitudes m o1 o2 o3 o4 ++ (signs o1 o2 o3 o4 ++ fixed_length 5 position)) ≤ 9 + 4 * m
-band_most m position o1 o2 o3 o4 = omega (arith, band_length m position o1 o2 o3 o4, magnitudes_most m o1 o2 o3 o4, signs_most o1 o2 o3 o4)
+band_most : (m position : ℕ) (o : Four ℤ) → length (magnitudes m o ++ (signs o ++ fixed_length 5 position)) ≤ 9 + 4 * m
+band_most m position o = omega (arith, band_length m position o, magnitudes_most m o, signs_most o)
 
 pub rest_length : (m : ℕ) (c : Offsets) → length (rest m c) ≤ 9 + 4 * m
 unfolding rest
 rest_length m Off = omega arith
-rest_length m (Band position o1 o2 o3 o4) = band_most m position o1 o2 o3 o4
-rest_length m (Edge class o1 o2 o3 o4) =
-    omega (arith, length-append (magnitudes m o1 o2 o3 o4) (fixed_length 2 class), fixed_length_lem 2 class, magnitudes_most m o1 o2 o3 o4)
+rest_length m (Band position o) = band_most m position o
+rest_length m (Edge class o) =
+    omega (arith, length-append (magnitudes m o) (fixed_length 2 class), fixed_length_lem 2 class, magnitudes_most m o)
 
 pub rest_of_cr_length : (m : ℕ) (c : Offsets) → length (rest_of_cr m c) ≤ 9 + 4 * m
 unfolding rest_of_cr
 rest_of_cr_length m Off = omega arith
-rest_of_cr_length m (Band position o1 o2 o3 o4) = band_most m position o1 o2 o3 o4
-rest_of_cr_length m (Edge class o1 o2 o3 o4) = omega (arith, magnitudes_most m o1 o2 o3 o4)
+rest_of_cr_length m (Band position o) = band_most m position o
+rest_of_cr_length m (Edge class o) = omega (arith, magnitudes_most m o)
 
 when_length : (b : Bool) (bins : List Bool) → length (when b bins) ≤ length bins
 when_length true bins = omega arith
@@ -141,8 +142,11 @@ no_longer {s} {left = left} {up = up} {q = q} (in_full on valid is) =
 
 -- ---- some are as many
 
+abbrev pub loud_offsets : ℕ → Four ℤ
+loud_offsets m = four (pos m) (pos m) (pos m) (pos m)
+
 abbrev pub loud : ℕ → Offsets
-loud m = Band 0 (pos m) (pos m) (pos m) (pos m)
+loud m = Band 0 (loud_offsets m)
 
 abbrev pub loudest : Switches → CtuSet
 loudest s = record { luma = loud (most s 0); cb = loud (most s 1); cr = loud (most s 2) }
@@ -158,11 +162,11 @@ unfolding sign_bins
 loud_sign zero h = absurd (omega arith)
 loud_sign (suc m) h = refl
 
-loud_length : (m : ℕ) → 1 ≤ m → length (magnitudes m (pos m) (pos m) (pos m) (pos m) ++ (signs (pos m) (pos m) (pos m) (pos m) ++ fixed_length 5 0)) ≡ 9 + 4 * m
+loud_length : (m : ℕ) → 1 ≤ m → length (magnitudes m (loud_offsets m) ++ (signs (loud_offsets m) ++ fixed_length 5 0)) ≡ 9 + 4 * m
 loud_length m h =
-    let parts = band_length m 0 (pos m) (pos m) (pos m) (pos m) in
-    let ones = magnitudes_length m (pos m) (pos m) (pos m) (pos m) in
-    omega (arith, signs_length (pos m) (pos m) (pos m) (pos m), truncated_largest m, loud_sign m h)
+    let parts = band_length m 0 (loud_offsets m) in
+    let ones = magnitudes_length m (loud_offsets m) in
+    omega (arith, signs_length (loud_offsets m), truncated_largest m, loud_sign m h)
 
 loud_rest : (m : ℕ) → 1 ≤ m → length (rest m (loud m)) ≡ 9 + 4 * m
 unfolding rest

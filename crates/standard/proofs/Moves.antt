@@ -10,6 +10,7 @@ use native.Mathlib.Omega.{arith}
 use lib.IntN.{ℤ, pos, nat_abs, ◌+ℤ◌}
 use Rattle.standard.specs.declared.Picture.{Picture}
 use Rattle.standard.specs.declared.Layout.{Layout}
+use Rattle.standard.specs.declared.Four.{Four}
 use Rattle.standard.specs.declared.Offsets.{Offsets}
 use Rattle.standard.specs.declared.Offsets.TheVariants.{Off, Band, Edge}
 use Rattle.standard.specs.Picture.{depth_of, plane_width}
@@ -17,22 +18,22 @@ use Rattle.standard.specs.Sets.{largest, Small, Fits}
 use Rattle.standard.specs.Samples.{shift_of, layout_of, Context, Parameters, context_of, offset_val, clip, steps_of, at, neighbour, edge_idx_of, band_sample, edge_sample, modified, sample}
 use Rattle.standard.proofs.Clips.{Near, near_wider, clip_in_range, offset_near, index_zero}
 
-abbrev pub magnitude : ℤ → ℤ → ℤ → ℤ → ℕ
-magnitude o1 o2 o3 o4 = max (max (nat_abs o1) (nat_abs o2)) (max (nat_abs o3) (nat_abs o4))
+abbrev pub magnitude : Four ℤ → ℕ
+magnitude o = max (max (nat_abs o.o1) (nat_abs o.o2)) (max (nat_abs o.o3) (nat_abs o.o4))
 
 -- the largest magnitude in a set
 abbrev pub magnitude_of : Offsets → ℕ
 magnitude_of Off = 0
-magnitude_of (Band position o1 o2 o3 o4) = magnitude o1 o2 o3 o4
-magnitude_of (Edge class o1 o2 o3 o4) = magnitude o1 o2 o3 o4
+magnitude_of (Band position o) = magnitude o
+magnitude_of (Edge class o) = magnitude o
 
-pub magnitude_small : (o1 o2 o3 o4 : ℤ) → Small (magnitude o1 o2 o3 o4) o1 o2 o3 o4
-magnitude_small o1 o2 o3 o4 = record { m1 = omega arith; m2 = omega arith; m3 = omega arith; m4 = omega arith }
+pub magnitude_small : (o : Four ℤ) → Small (magnitude o) o
+magnitude_small o = record { m1 = omega arith; m2 = omega arith; m3 = omega arith; m4 = omega arith }
 
 pub fits_magnitude : {m : ℕ} (set : Offsets) → Fits m set → magnitude_of set ≤ m
 fits_magnitude Off fits = omega arith
-fits_magnitude (Band position o1 o2 o3 o4) fits = omega arith
-fits_magnitude (Edge class o1 o2 o3 o4) fits = omega arith
+fits_magnitude (Band position o) fits = omega arith
+fits_magnitude (Edge class o) fits = omega arith
 
 -- what holds of the deblocked sample and of the modified one holds of the filtered one
 kept_or_modified : (P : ℕ → Type 0) (l : Layout) (context : Context) (set : Offsets) (plane : List ℕ) (x y : ℕ)
@@ -50,8 +51,8 @@ module _ (l : Layout) (context : Context) (plane : List ℕ) (x y : ℕ) (fits :
   modified_in_range : (set : Offsets) → modified l context set plane x y < 2 ^ l.depth
   unfolding modified band_sample edge_sample
   modified_in_range Off = fits
-  modified_in_range (Band position o1 o2 o3 o4) = clip_in_range l.depth _
-  modified_in_range (Edge class o1 o2 o3 o4) = clip_in_range l.depth _
+  modified_in_range (Band position o) = clip_in_range l.depth _
+  modified_in_range (Edge class o) = clip_in_range l.depth _
 
   pub sample_in_range : (set : Offsets) → sample l context set plane x y < 2 ^ l.depth
   sample_in_range set = kept_or_modified (λ n. n < 2 ^ l.depth) l context set plane x y fits (modified_in_range set)
@@ -62,8 +63,8 @@ module _ (l : Layout) (context : Context) (plane : List ℕ) (x y : ℕ) (fits :
   modified_moves : (set : Offsets) → Near (at plane l.width x y) (modified l context set plane x y) (magnitude_of set * 2 ^ l.shift)
   unfolding modified band_sample edge_sample
   modified_moves Off = unmoved _
-  modified_moves (Band position o1 o2 o3 o4) = offset_near l.depth fits l.shift (magnitude_small o1 o2 o3 o4) _
-  modified_moves (Edge class o1 o2 o3 o4) = offset_near l.depth fits l.shift (magnitude_small o1 o2 o3 o4) _
+  modified_moves (Band position o) = offset_near l.depth fits l.shift (magnitude_small o) _
+  modified_moves (Edge class o) = offset_near l.depth fits l.shift (magnitude_small o) _
 
   pub sample_moves : (set : Offsets) → Near (at plane l.width x y) (sample l context set plane x y) (magnitude_of set * 2 ^ l.shift)
   sample_moves set =
@@ -74,13 +75,13 @@ module _ (l : Layout) (context : Context) (plane : List ℕ) (x y : ℕ) (fits :
   sample_moves_within m set small = near_wider (mul-le-mul_right (2 ^ l.shift) (fits_magnitude set small)) (sample_moves set)
 
   -- a comparison with a sample that does not count leaves the sample as it was
-  pub edge_border : (class : ℕ) (o1 o2 o3 o4 : ℤ)
+  pub edge_border : (class : ℕ) (o : Four ℤ)
       → (neighbour l context plane x y (steps_of class).0 ≡ none) ⊎ (neighbour l context plane x y (steps_of class).1 ≡ none)
-      → sample l context (Edge class o1 o2 o3 o4) plane x y ≡ at plane l.width x y
+      → sample l context (Edge class o) plane x y ≡ at plane l.width x y
   unfolding modified edge_sample edge_idx_of
-  edge_border class o1 o2 o3 o4 border =
-      kept_or_modified (λ n. n ≡ s) l context (Edge class o1 o2 o3 o4) plane x y refl
-      (ap (λ (k : ℕ). clip l.depth (pos s +ℤ offset_val l.shift o1 o2 o3 o4 k)) (zero_at _ _ border) ∙ index_zero l.depth fits l.shift o1 o2 o3 o4)
+  edge_border class o border =
+      kept_or_modified (λ n. n ≡ s) l context (Edge class o) plane x y refl
+      (ap (λ (k : ℕ). clip l.depth (pos s +ℤ offset_val l.shift o k)) (zero_at _ _ border) ∙ index_zero l.depth fits l.shift o)
     where
       s : ℕ
       s = at plane l.width x y

@@ -25,8 +25,8 @@ use Rattle.standard.proofs.Grid.{ends, grown_holds, ctb_lt, ctb_pair, ctb_inside
 
 pub itself_seen : (set : Offsets) (x y : ℕ) → Sees set x y x y
 itself_seen Off x y = (refl, refl)
-itself_seen (Band position o1 o2 o3 o4) x y = (refl, refl)
-itself_seen (Edge class o1 o2 o3 o4) x y = inl (refl, refl)
+itself_seen (Band position o) x y = (refl, refl)
+itself_seen (Edge class o) x y = inl (refl, refl)
 
 -- ---- what is seen is near
 
@@ -75,8 +75,8 @@ itself_near e = record { east = omega arith; west = omega arith; south = omega a
 
 pub seen_near : (set : Offsets) (x y u v : ℕ) → Sees set x y u v → Near x y u v
 seen_near Off x y u v e = itself_near e
-seen_near (Band position o1 o2 o3 o4) x y u v e = itself_near e
-seen_near (Edge class o1 o2 o3 o4) x y u v e =
+seen_near (Band position o) x y u v e = itself_near e
+seen_near (Edge class o) x y u v e =
     let k = steps_short class in
     ⊎_elim itself_near (⊎_elim (step_near x y u v (steps_of class).0 k.0) (step_near x y u v (steps_of class).1 k.1)) e
 
@@ -150,8 +150,8 @@ module _ (l : Layout) (context : Context) (within : Within l context) where
         → modified l context set a x y ≡ modified l context set b x y
     unfolding modified
     modified_sees Off x y here same = here
-    modified_sees (Band position o1 o2 o3 o4) x y here same = rw here
-    modified_sees (Edge class o1 o2 o3 o4) x y here same =
+    modified_sees (Band position o) x y here same = rw here
+    modified_sees (Edge class o) x y here same =
         let one = neighbour_same x y (steps_of class).0 (λ u v uw vh e. same u v uw vh (inr (inl e))) in
         let two = neighbour_same x y (steps_of class).1 (λ u v uw vh e. same u v uw vh (inr (inr e))) in
         rw (here, one, two)

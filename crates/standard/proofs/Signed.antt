@@ -1,5 +1,5 @@
 -- Offsets as signed bytes: what is small is read back as it was put in, and an offset plus 128, computed in 32 bits, is its byte.
-use mathlib.Core.Path.{◌≡◌, refl, ap, ◌∙◌}
+use mathlib.Core.Path.{◌≡◌, ap, ◌∙◌}
 use Prim.Native.Nat.{suc, ◌<◌, ◌^◌}
 use native.Mathlib.Omega.{arith}
 use borrow.Author.Tests.{le-ltb}
@@ -8,6 +8,8 @@ use lib.Signed.{mag}
 use mir.Syntax.{Width, w8, w32}
 use mir.Val.{SFits, of_z, to_z, hbits}
 use mir.ValLaws.{to_z-of_z}
+use Rattle.standard.specs.declared.Four.{Four}
+use Rattle.standard.specs.Sets.{four}
 use Rattle.standard.specs.Table.{offset_byte}
 
 abbrev pub back : Width → ℤ → ℤ
@@ -20,9 +22,9 @@ pub backed : (w : Width) (z : ℤ) → mag z < 2 ^ hbits w → back w z ≡ z
 backed w z h = to_z-of_z w z (small w z h)
 
 -- four at once
-pub four_back : {A : Type 0} (g : ℤ → ℤ → ℤ → ℤ → A) {o1 o2 o3 o4 : ℤ} → mag o1 < 128 → mag o2 < 128 → mag o3 < 128 → mag o4 < 128
-    → g (back w8 o1) (back w8 o2) (back w8 o3) (back w8 o4) ≡ g o1 o2 o3 o4
-four_back g {o1} {o2} {o3} {o4} h1 h2 h3 h4 = rw (backed w8 o1 h1, backed w8 o2 h2, backed w8 o3 h3, backed w8 o4 h4) refl
+pub four_back : {o : Four ℤ} → mag o.o1 < 128 → mag o.o2 < 128 → mag o.o3 < 128 → mag o.o4 < 128
+    → four (back w8 o.o1) (back w8 o.o2) (back w8 o.o3) (back w8 o.o4) ≡ o
+four_back {o} h1 h2 h3 h4 = λ n. four (backed w8 o.o1 h1 n) (backed w8 o.o2 h2 n) (backed w8 o.o3 h3 n) (backed w8 o.o4 h4 n)
 
 -- ---- an offset's byte
 

@@ -32,8 +32,8 @@ is_it? (some a) q = by_iff (λ e. ap some e) (λ e. cc) (same_set? a q)
 type_length : (c : Offsets) → 1 ≤ length (type_bins c)
 unfolding truncated
 type_length Off = omega arith
-type_length (Band p o1 o2 o3 o4) = omega arith
-type_length (Edge k o1 o2 o3 o4) = omega arith
+type_length (Band p o) = omega arith
+type_length (Edge k o) = omega arith
 
 pub full_not_empty : (s : Switches) (q : CtuSet) → any_on s ≡ true → 1 ≤ length (full s q)
 unfolding full

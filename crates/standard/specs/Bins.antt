@@ -1,5 +1,6 @@
 -- The bins of a set's values: binarisation (H.265 9.3.3) and the order of the syntax elements (7.3.8.3).
 use Rattle.std.specs.Prelude.{Bool, true, false, List, [], ◌∷◌, ◌++◌, ℕ, zero, suc, ◌+◌, ◌/◌, ◌%◌, ◌^◌, eqb, ℤ, pos, negsuc, nat_abs, length, take, drop}
+use Rattle.standard.specs.declared.Four.{Four}
 use Rattle.standard.specs.declared.Offsets.{Offsets}
 use Rattle.standard.specs.declared.Offsets.TheVariants.{Off, Band, Edge}
 use Rattle.standard.specs.declared.CtuSet.{CtuSet}
@@ -18,9 +19,9 @@ fixed_length zero v = []
 fixed_length (suc n) v = eqb (v / 2 ^ n % 2) 1 ∷ fixed_length n v
 
 -- sao_offset_abs, four of them
-unfoldable pub magnitudes : ℕ → ℤ → ℤ → ℤ → ℤ → List Bool
-magnitudes m o1 o2 o3 o4 =
-    truncated m (nat_abs o1) ++ (truncated m (nat_abs o2) ++ (truncated m (nat_abs o3) ++ truncated m (nat_abs o4)))
+unfoldable pub magnitudes : ℕ → Four ℤ → List Bool
+magnitudes m o =
+    truncated m (nat_abs o.o1) ++ (truncated m (nat_abs o.o2) ++ (truncated m (nat_abs o.o3) ++ truncated m (nat_abs o.o4)))
 
 -- sao_offset_sign: one bin for a magnitude that is not 0, and 1 is negative
 unfoldable pub sign_bins : ℤ → List Bool
@@ -28,14 +29,14 @@ sign_bins (pos zero) = []
 sign_bins (pos (suc n)) = false ∷ []
 sign_bins (negsuc n) = true ∷ []
 
-unfoldable pub signs : ℤ → ℤ → ℤ → ℤ → List Bool
-signs o1 o2 o3 o4 = sign_bins o1 ++ (sign_bins o2 ++ (sign_bins o3 ++ sign_bins o4))
+unfoldable pub signs : Four ℤ → List Bool
+signs o = sign_bins o.o1 ++ (sign_bins o.o2 ++ (sign_bins o.o3 ++ sign_bins o.o4))
 
 -- sao_type_idx: 0 off, 1 band, 2 edge
 abbrev pub type_idx : Offsets → ℕ
 type_idx Off = 0
-type_idx (Band position o1 o2 o3 o4) = 1
-type_idx (Edge class o1 o2 o3 o4) = 2
+type_idx (Band position o) = 1
+type_idx (Edge class o) = 2
 
 abbrev pub type_bins : Offsets → List Bool
 type_bins c = truncated 2 (type_idx c)
@@ -43,14 +44,14 @@ type_bins c = truncated 2 (type_idx c)
 -- what follows the type, of luma and Cb: the position has 5 bins, the class 2
 unfoldable pub rest : ℕ → Offsets → List Bool
 rest m Off = []
-rest m (Band position o1 o2 o3 o4) = magnitudes m o1 o2 o3 o4 ++ (signs o1 o2 o3 o4 ++ fixed_length 5 position)
-rest m (Edge class o1 o2 o3 o4) = magnitudes m o1 o2 o3 o4 ++ fixed_length 2 class
+rest m (Band position o) = magnitudes m o ++ (signs o ++ fixed_length 5 position)
+rest m (Edge class o) = magnitudes m o ++ fixed_length 2 class
 
 -- of Cr, which takes Cb's type and class
 unfoldable pub rest_of_cr : ℕ → Offsets → List Bool
 rest_of_cr m Off = []
-rest_of_cr m (Band position o1 o2 o3 o4) = magnitudes m o1 o2 o3 o4 ++ (signs o1 o2 o3 o4 ++ fixed_length 5 position)
-rest_of_cr m (Edge class o1 o2 o3 o4) = magnitudes m o1 o2 o3 o4
+rest_of_cr m (Band position o) = magnitudes m o ++ (signs o ++ fixed_length 5 position)
+rest_of_cr m (Edge class o) = magnitudes m o
 
 abbrev pub when : Bool → List Bool → List Bool
 when true bins = bins

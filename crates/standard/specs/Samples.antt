@@ -3,6 +3,7 @@
 use Rattle.std.specs.Prelude.{◌≡◌, Bool, false, cond, ◌&&◌, List, [], ◌∷◌, ◌⊎◌, ℕ, zero, suc, ◌+◌, ◌-◌, ◌*◌, ◌/◌, ◌%◌, ◌^◌, min, ltb, ℤ, pos, negsuc, nat_abs, ◌+ℤ◌, ◌-ℤ◌, ◌*ℤ◌, get_or}
 use Rattle.std.proofs.Math.Option.{Option, some, none}
 use Rattle.standard.specs.declared.Picture.{Picture}
+use Rattle.standard.specs.declared.Four.{Four}
 use Rattle.standard.specs.declared.Offsets.{Offsets}
 use Rattle.standard.specs.declared.Offsets.TheVariants.{Off, Band, Edge}
 use Rattle.standard.specs.declared.CtuSet.{CtuSet}
@@ -21,8 +22,8 @@ unfoldable pub layout_of : Picture → ℕ → Layout
 layout_of p i = record { width = plane_width p i; height = plane_height p i; depth = depth_of p i; shift = shift_of p i }
 
 -- SaoOffsetVal, of indices 0 to 4
-unfoldable pub offset_val : ℕ → ℤ → ℤ → ℤ → ℤ → ℕ → ℤ
-offset_val shift o1 o2 o3 o4 n = get_or (pos 0 ∷ o1 ∷ o2 ∷ o3 ∷ o4 ∷ []) n (pos 0) *ℤ pos (2 ^ shift)
+unfoldable pub offset_val : ℕ → Four ℤ → ℕ → ℤ
+offset_val shift o n = get_or (pos 0 ∷ o.o1 ∷ o.o2 ∷ o.o3 ∷ o.o4 ∷ []) n (pos 0) *ℤ pos (2 ^ shift)
 
 -- Clip3( 0, ( 1 << bitDepth ) - 1, v )
 unfoldable pub clip : ℕ → ℤ → ℕ
@@ -115,19 +116,19 @@ edge_idx_of s none b = 0
 -- ---- the filtered sample
 
 -- a sample s by its band
-unfoldable pub band_sample : ℕ → ℕ → ℕ → ℤ → ℤ → ℤ → ℤ → ℕ → ℕ
-band_sample depth shift position o1 o2 o3 o4 s = clip depth (pos s +ℤ offset_val shift o1 o2 o3 o4 (band_idx depth position s))
+unfoldable pub band_sample : ℕ → ℕ → ℕ → Four ℤ → ℕ → ℕ
+band_sample depth shift position o s = clip depth (pos s +ℤ offset_val shift o (band_idx depth position s))
 
 -- a sample s by its two neighbours
-unfoldable pub edge_sample : ℕ → ℕ → ℤ → ℤ → ℤ → ℤ → ℕ → Option ℕ → Option ℕ → ℕ
-edge_sample depth shift o1 o2 o3 o4 s a b = clip depth (pos s +ℤ offset_val shift o1 o2 o3 o4 (edge_idx_of s a b))
+unfoldable pub edge_sample : ℕ → ℕ → Four ℤ → ℕ → Option ℕ → Option ℕ → ℕ
+edge_sample depth shift o s a b = clip depth (pos s +ℤ offset_val shift o (edge_idx_of s a b))
 
 -- the sample at column x of row y, as its set says
 unfoldable pub modified : Layout → Context → Offsets → List ℕ → ℕ → ℕ → ℕ
 modified l context Off plane x y = at plane l.width x y
-modified l context (Band position o1 o2 o3 o4) plane x y = band_sample l.depth l.shift position o1 o2 o3 o4 (at plane l.width x y)
-modified l context (Edge class o1 o2 o3 o4) plane x y =
-    edge_sample l.depth l.shift o1 o2 o3 o4 (at plane l.width x y)
+modified l context (Band position o) plane x y = band_sample l.depth l.shift position o (at plane l.width x y)
+modified l context (Edge class o) plane x y =
+    edge_sample l.depth l.shift o (at plane l.width x y)
     (neighbour l context plane x y (steps_of class).0)
     (neighbour l context plane x y (steps_of class).1)
 
@@ -161,8 +162,8 @@ IsAt a b u v = (a ≡ pos u) × (b ≡ pos v)
 -- the filtered sample at column x of row y is made from that at column u of row v
 abbrev pub Sees : Offsets → ℕ → ℕ → ℕ → ℕ → Type 0
 Sees Off x y u v = (u ≡ x) × (v ≡ y)
-Sees (Band position o1 o2 o3 o4) x y u v = (u ≡ x) × (v ≡ y)
-Sees (Edge class o1 o2 o3 o4) x y u v =
+Sees (Band position o) x y u v = (u ≡ x) × (v ≡ y)
+Sees (Edge class o) x y u v =
     ((u ≡ x) × (v ≡ y))
     ⊎ (IsAt (pos x +ℤ (steps_of class).0.h) (pos y +ℤ (steps_of class).0.v) u v ⊎ IsAt (pos x +ℤ (steps_of class).1.h) (pos y +ℤ (steps_of class).1.v) u v)
 

@@ -3,6 +3,7 @@ use Rattle.std.specs.Prelude.{◌≡◌, Bool, true, false, ℕ, zero, suc, ◌-
 use Rattle.standard.specs.declared.Picture.{Picture}
 use Rattle.standard.specs.declared.State.{State}
 use Rattle.standard.specs.declared.Switches.{Switches}
+use Rattle.standard.specs.declared.Four.{Four}
 use Rattle.standard.specs.declared.Offsets.{Offsets}
 use Rattle.standard.specs.declared.Offsets.TheVariants.{Off, Band, Edge}
 use Rattle.standard.specs.declared.CtuSet.{CtuSet}
@@ -38,36 +39,41 @@ NotPositive (pos zero) = Unit {0}
 NotPositive (pos (suc n)) = ⊥
 NotPositive (negsuc n) = Unit {0}
 
-pub record Small (m : ℕ) (o1 o2 o3 o4 : ℤ) : Type 0 where
-  pub m1 : nat_abs o1 ≤ m
-  pub m2 : nat_abs o2 ≤ m
-  pub m3 : nat_abs o3 ≤ m
-  pub m4 : nat_abs o4 ≤ m
+-- one for each of the four offsets, in their order
+abbrev pub four : {A : Type 0} → A → A → A → A → Four A
+four a b c d = record { o1 = a; o2 = b; o3 = c; o4 = d }
+
+-- no magnitude is above m
+pub record Small (m : ℕ) (o : Four ℤ) : Type 0 where
+  pub m1 : nat_abs o.o1 ≤ m
+  pub m2 : nat_abs o.o2 ≤ m
+  pub m3 : nat_abs o.o3 ≤ m
+  pub m4 : nat_abs o.o4 ≤ m
 
 -- edge signs are not coded: the first two offsets are not negative, the last two not positive
-pub record EdgeSigns (o1 o2 o3 o4 : ℤ) : Type 0 where
-  pub s1 : NotNegative o1
-  pub s2 : NotNegative o2
-  pub s3 : NotPositive o3
-  pub s4 : NotPositive o4
+pub record EdgeSigns (o : Four ℤ) : Type 0 where
+  pub s1 : NotNegative o.o1
+  pub s2 : NotNegative o.o2
+  pub s3 : NotPositive o.o3
+  pub s4 : NotPositive o.o4
 
 -- one component, with no magnitude above m
 abbrev pub Fits : ℕ → Offsets → Type 0
 Fits m Off = Unit {0}
-Fits m (Band position o1 o2 o3 o4) = Small m o1 o2 o3 o4 × (position < 32)
-Fits m (Edge class o1 o2 o3 o4) = Small m o1 o2 o3 o4 × (class < 4) × EdgeSigns o1 o2 o3 o4
+Fits m (Band position o) = Small m o × (position < 32)
+Fits m (Edge class o) = Small m o × (class < 4) × EdgeSigns o
 
 -- Cr has Cb's type and class
 abbrev pub Shares : Offsets → Offsets → Type 0
 Shares Off Off = Unit {0}
-Shares (Band position o1 o2 o3 o4) (Band position' o1' o2' o3' o4') = Unit {0}
-Shares (Edge class o1 o2 o3 o4) (Edge class' o1' o2' o3' o4') = class ≡ class'
-Shares Off (Band position o1 o2 o3 o4) = ⊥
-Shares Off (Edge class o1 o2 o3 o4) = ⊥
-Shares (Band position o1 o2 o3 o4) Off = ⊥
-Shares (Band position o1 o2 o3 o4) (Edge class o1' o2' o3' o4') = ⊥
-Shares (Edge class o1 o2 o3 o4) Off = ⊥
-Shares (Edge class o1 o2 o3 o4) (Band position o1' o2' o3' o4') = ⊥
+Shares (Band position o) (Band position' o') = Unit {0}
+Shares (Edge class o) (Edge class' o') = class ≡ class'
+Shares Off (Band position o) = ⊥
+Shares Off (Edge class o) = ⊥
+Shares (Band position o) Off = ⊥
+Shares (Band position o) (Edge class o') = ⊥
+Shares (Edge class o) Off = ⊥
+Shares (Edge class o) (Band position o') = ⊥
 
 -- the rule of a component whose switch is on; where it is off, the component is off
 abbrev pub Ruled : Bool → Type 0 → Type 0 → Type 0

@@ -4,11 +4,12 @@ use Rattle.std.specs.Prelude.{◌≡◌, List, [], ◌∷◌, ◌++◌, ℕ, zer
 use Rattle.std.proofs.Math.Option.{Option, some, none}
 use Rattle.std.proofs.Math.IntN.{sub_ℕ}
 use Rattle.standard.specs.declared.Picture.{Picture}
+use Rattle.standard.specs.declared.Four.{Four}
 use Rattle.standard.specs.declared.Offsets.{Offsets}
 use Rattle.standard.specs.declared.Offsets.TheVariants.{Off, Band, Edge}
 use Rattle.standard.specs.declared.CtuSet.{CtuSet}
 use Rattle.standard.specs.declared.Switches.{Switches}
-use Rattle.standard.specs.Sets.{switches_in, Valid, component_of}
+use Rattle.standard.specs.Sets.{switches_in, four, Valid, component_of}
 use Rattle.standard.specs.Samples.{Parameters}
 
 -- how many bytes a set has, and how many an entry of the table has
@@ -22,10 +23,13 @@ abbrev pub offset_byte : ℤ → ℕ
 offset_byte (pos n) = 128 + n
 offset_byte (negsuc n) = 127 - n
 
+abbrev pub offset_bytes : Four ℤ → List ℕ
+offset_bytes o = offset_byte o.o1 ∷ offset_byte o.o2 ∷ offset_byte o.o3 ∷ offset_byte o.o4 ∷ []
+
 unfoldable pub encode_offsets : Offsets → List ℕ
 encode_offsets Off = 0 ∷ 0 ∷ 0 ∷ 0 ∷ 0 ∷ 0 ∷ []
-encode_offsets (Band position o1 o2 o3 o4) = 1 ∷ position ∷ offset_byte o1 ∷ offset_byte o2 ∷ offset_byte o3 ∷ offset_byte o4 ∷ []
-encode_offsets (Edge class o1 o2 o3 o4) = 2 ∷ class ∷ offset_byte o1 ∷ offset_byte o2 ∷ offset_byte o3 ∷ offset_byte o4 ∷ []
+encode_offsets (Band position o) = 1 ∷ position ∷ offset_bytes o
+encode_offsets (Edge class o) = 2 ∷ class ∷ offset_bytes o
 
 unfoldable pub encode : CtuSet → List ℕ
 encode q = encode_offsets q.luma ++ (encode_offsets q.cb ++ encode_offsets q.cr)
@@ -53,17 +57,17 @@ switches_at p table k = switches_in p
 
 -- ---- the set that an entry says; bytes that encode no set say some set or other, and are not sound
 
-abbrev pub offsets_by : ℕ → ℕ → ℤ → ℤ → ℤ → ℤ → Offsets
-offsets_by zero a o1 o2 o3 o4 = Off
-offsets_by (suc zero) a o1 o2 o3 o4 = Band a o1 o2 o3 o4
-offsets_by (suc (suc n)) a o1 o2 o3 o4 = Edge a o1 o2 o3 o4
+abbrev pub offsets_by : ℕ → ℕ → Four ℤ → Offsets
+offsets_by zero a o = Off
+offsets_by (suc zero) a o = Band a o
+offsets_by (suc (suc n)) a o = Edge a o
 
 abbrev pub offset_of : ℕ → ℤ
 offset_of byte = sub_ℕ byte 128
 
 unfoldable pub decode_offsets : List ℕ → Offsets
 decode_offsets e =
-    offsets_by (get_or e 0 0) (get_or e 1 0) (offset_of (get_or e 2 0)) (offset_of (get_or e 3 0)) (offset_of (get_or e 4 0)) (offset_of (get_or e 5 0))
+    offsets_by (get_or e 0 0) (get_or e 1 0) (four (offset_of (get_or e 2 0)) (offset_of (get_or e 3 0)) (offset_of (get_or e 4 0)) (offset_of (get_or e 5 0)))
 
 unfoldable pub decode : List ℕ → CtuSet
 decode e = record { luma = decode_offsets e; cb = decode_offsets (drop 6 e); cr = decode_offsets (drop 12 e) }

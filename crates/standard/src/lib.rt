@@ -56,24 +56,21 @@ impl State {
     }
 }
 
+// One value for each of the four offsets.
+#[derive(Clone, Copy, PartialEq, Eq)]
+pub struct Four<T> {
+    pub o1: T,
+    pub o2: T,
+    pub o3: T,
+    pub o4: T,
+}
+
 // One component's set. Offsets are as coded, before they are scaled to the depth.
 #[derive(Clone, Copy, PartialEq, Eq)]
 pub enum Offsets {
     Off,
-    Band {
-        position: u8,
-        o1: i8,
-        o2: i8,
-        o3: i8,
-        o4: i8,
-    },
-    Edge {
-        class: u8,
-        o1: i8,
-        o2: i8,
-        o3: i8,
-        o4: i8,
-    },
+    Band { position: u8, offsets: Four<i8> },
+    Edge { class: u8, offsets: Four<i8> },
 }
 
 // A CTU's set.

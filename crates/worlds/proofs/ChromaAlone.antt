@@ -8,6 +8,7 @@ use lib.IntN.{pos, negsuc}
 use lib.ListN.{replicate}
 use Rattle.standard.specs.declared.Offsets.TheVariants.{Off, Edge}
 use Rattle.standard.specs.declared.CtuSet.{CtuSet}
+use Rattle.standard.specs.Sets.{four}
 use Rattle.standard.specs.Reasons.{Planes}
 use Rattle.standard.proofs.Depths.{alike}
 use Rattle.promises.specs.World.{World}
@@ -19,7 +20,7 @@ use Rattle.worlds.proofs.Lives.{Story, start, in_time, events_in, calls_all, eve
 
 -- offsets act as coded
 abbrev pub tinted : CtuSet
-tinted = record { luma = Off; cb = Edge 0 (pos 3) (pos 2) (negsuc 0) (negsuc 2); cr = Edge 0 (pos 31) (pos 0) (pos 0) (negsuc 30) }
+tinted = record { luma = Off; cb = Edge 0 (four (pos 3) (pos 2) (negsuc 0) (negsuc 2)); cr = Edge 0 (four (pos 31) (pos 0) (pos 0) (negsuc 30)) }
 
 -- every row of a component is the same
 abbrev pub deblocked_row : ℕ → ℕ → List ℕ
@@ -57,7 +58,7 @@ story = record {
   unfiltered = (1, 1);
   finishing = filters 1 1 ∷ filters 1 0 ∷ filters 0 0 ∷ counts 0 8 ∷ [];
   -- luma's switch is off
-  strange = record { luma = Edge 0 (pos 1) (pos 0) (pos 0) (pos 0); cb = Off; cr = Off };
+  strange = record { luma = Edge 0 (four (pos 1) (pos 0) (pos 0) (pos 0)); cb = Off; cr = Off };
 }
 
 happens : Happen chroma (start story) (events_in story)

@@ -7,7 +7,7 @@ use lib.Dec.{ltb}
 use lib.IntN.{pos}
 use lib.ListN.{replicate}
 use Rattle.standard.specs.declared.Offsets.TheVariants.{Band}
-use Rattle.standard.specs.Sets.{all_off}
+use Rattle.standard.specs.Sets.{four, all_off}
 use Rattle.standard.proofs.Cases.{of_luma}
 use Rattle.standard.proofs.Depths.{alike}
 use Rattle.promises.specs.World.{World}
@@ -36,7 +36,7 @@ story = record {
   rows = 8;
   unfiltered = (1, 0);
   finishing = filters 1 0 ∷ counts 1 4 ∷ [];
-  strange = of_luma (Band 0 (pos 0) (pos 0) (pos 0) (pos 0));
+  strange = of_luma (Band 0 (four (pos 0) (pos 0) (pos 0) (pos 0)));
 }
 
 happens : Happen copied (start story) (events_in story)

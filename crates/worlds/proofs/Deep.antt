@@ -9,6 +9,7 @@ use lib.IntN.{pos, negsuc}
 use lib.ListN.{replicate}
 use Rattle.standard.specs.declared.Offsets.TheVariants.{Band, Edge}
 use Rattle.standard.specs.declared.CtuSet.{CtuSet}
+use Rattle.standard.specs.Sets.{four}
 use Rattle.standard.proofs.Cases.{of_luma}
 use Rattle.standard.proofs.Depths.{alike}
 use Rattle.promises.specs.World.{World, Filter, Deliver}
@@ -20,10 +21,10 @@ use Rattle.worlds.proofs.Lives.{Story, start, in_time, events_in, calls_all, eve
 
 -- offsets act times 64
 abbrev pub edged : CtuSet
-edged = of_luma (Edge 3 (pos 31) (pos 1) (negsuc 0) (negsuc 30))
+edged = of_luma (Edge 3 (four (pos 31) (pos 1) (negsuc 0) (negsuc 30)))
 
 abbrev pub banded : CtuSet
-banded = of_luma (Band 31 (pos 31) (negsuc 30) (pos 0) (pos 0))
+banded = of_luma (Band 31 (four (pos 31) (negsuc 30) (pos 0) (pos 0)))
 
 -- eight columns, which come nine times
 abbrev pub eight : List ℕ
@@ -69,7 +70,7 @@ story = record {
   rows = 0;
   unfiltered = (0, 1);
   finishing = filters 0 1 ∷ counts 0 8 ∷ [];
-  strange = of_luma (Edge 4 (pos 0) (pos 0) (pos 0) (pos 0));
+  strange = of_luma (Edge 4 (four (pos 0) (pos 0) (pos 0) (pos 0)));
 }
 
 happens : Happen deep (start story) (events_in story)

@@ -10,6 +10,7 @@ use lib.IntN.{pos, negsuc}
 use lib.ListN.{get_or, drop, replicate}
 use Rattle.standard.specs.declared.Offsets.TheVariants.{Off, Band, Edge}
 use Rattle.standard.specs.declared.CtuSet.{CtuSet}
+use Rattle.standard.specs.Sets.{four as offsets}
 use Rattle.standard.specs.Reasons.{Planes}
 use Rattle.standard.proofs.Depths.{depths}
 use Rattle.promises.specs.World.{World, Deliver, Filter, Rows}
@@ -22,16 +23,16 @@ use Rattle.worlds.proofs.Lives.{Story, start, due_time, in_time, calls_all, even
 -- luma's offsets act times 4, and chroma's as coded
 abbrev pub edged : CtuSet
 edged = record {
-  luma = Edge 2 (pos 2) (pos 1) (negsuc 0) (negsuc 1);
-  cb = Edge 1 (pos 2) (pos 1) (negsuc 0) (negsuc 1);
-  cr = Edge 1 (pos 7) (pos 0) (pos 0) (negsuc 6);
+  luma = Edge 2 (offsets (pos 2) (pos 1) (negsuc 0) (negsuc 1));
+  cb = Edge 1 (offsets (pos 2) (pos 1) (negsuc 0) (negsuc 1));
+  cr = Edge 1 (offsets (pos 7) (pos 0) (pos 0) (negsuc 6));
 }
 
 abbrev pub banded : CtuSet
 banded = record {
-  luma = Band 3 (pos 1) (negsuc 1) (pos 0) (pos 0);
-  cb = Band 31 (pos 7) (negsuc 6) (pos 0) (pos 0);
-  cr = Band 31 (pos 0) (negsuc 0) (pos 0) (pos 0);
+  luma = Band 3 (offsets (pos 1) (negsuc 1) (pos 0) (pos 0));
+  cb = Band 31 (offsets (pos 7) (negsuc 6) (pos 0) (pos 0));
+  cr = Band 31 (offsets (pos 0) (negsuc 0) (pos 0) (pos 0));
 }
 
 -- a row of luma: case 7's a hundredfold, three times; and a column of Cb and of Cr
@@ -139,7 +140,7 @@ story = record {
       ∷ counts 1 12
       ∷ [];
   -- a magnitude that is within luma's depth and beyond chroma's
-  strange = record { luma = Off; cb = Band 0 (pos 8) (pos 0) (pos 0) (pos 0); cr = Band 0 (pos 0) (pos 0) (pos 0) (pos 0) };
+  strange = record { luma = Off; cb = Band 0 (offsets (pos 8) (pos 0) (pos 0) (pos 0)); cr = Band 0 (offsets (pos 0) (pos 0) (pos 0) (pos 0)) };
 }
 
 computed_due : ComputedDue story

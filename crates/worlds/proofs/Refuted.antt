@@ -154,8 +154,8 @@ every_format_is_420_refuted d =
 -- the class that is read for Cb, where it has one
 abbrev class_in : Offsets → ℕ
 class_in Off = 4
-class_in (Band position o1 o2 o3 o4) = 4
-class_in (Edge class o1 o2 o3 o4) = class
+class_in (Band position o) = 4
+class_in (Edge class o) = class
 
 abbrev class_of_cb : Got CtuSet → ℕ
 class_of_cb (got q beyond) = class_in q.cb

@@ -7,6 +7,7 @@ use lib.IntN.{pos, negsuc}
 use lib.ListN.{replicate}
 use Rattle.standard.specs.declared.CtuSet.{CtuSet}
 use Rattle.standard.specs.declared.Offsets.TheVariants.{Off, Edge}
+use Rattle.standard.specs.Sets.{four}
 use Rattle.standard.specs.Table.{entry_size}
 use Rattle.standard.proofs.Computing.{definitions}
 use Rattle.standard.proofs.Depths.{alike}
@@ -26,7 +27,7 @@ lent = record {
 
 -- document 01's case 3: edge, class 2, offsets 1, 0, 0, -2
 abbrev edge : CtuSet
-edge = record { luma = Edge 2 (pos 1) (pos 0) (pos 0) (negsuc 1); cb = Off; cr = Off }
+edge = record { luma = Edge 2 (four (pos 1) (pos 0) (pos 0) (negsuc 1)); cb = Off; cr = Off }
 
 -- a block of zeros but for one sample in its middle
 abbrev block : ℕ → List ℕ

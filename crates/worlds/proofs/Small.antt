@@ -14,7 +14,7 @@ use Rattle.standard.specs.declared.Picture.{Picture}
 use Rattle.standard.specs.declared.Offsets.TheVariants.{Edge}
 use Rattle.standard.specs.declared.CtuSet.{CtuSet}
 use Rattle.standard.specs.Picture.{plane_width, divisors, rectangle, due}
-use Rattle.standard.specs.Sets.{switches_of, all_off}
+use Rattle.standard.specs.Sets.{four, switches_of, all_off}
 use Rattle.standard.specs.Bins.{bins_of}
 use Rattle.standard.specs.Samples.{at, plane_by}
 use Rattle.standard.specs.Table.{entry_size, encode_entry}
@@ -178,7 +178,7 @@ world p n deblocked filtered marks table = record {
 
 -- the set of document 01's case 7, and its bins
 abbrev pub edgy : CtuSet
-edgy = of_luma (Edge 0 (pos 2) (pos 1) (negsuc 0) (negsuc 1))
+edgy = of_luma (Edge 0 (four (pos 2) (pos 1) (negsuc 0) (negsuc 1)))
 
 abbrev pub edgy_bytes : List ℕ
 edgy_bytes = 245 ∷ 96 ∷ []

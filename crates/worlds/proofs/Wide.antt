@@ -10,6 +10,7 @@ use lib.IntN.{pos, negsuc}
 use lib.ListN.{get_or, replicate}
 use Rattle.standard.specs.declared.Offsets.TheVariants.{Off, Band, Edge}
 use Rattle.standard.specs.declared.CtuSet.{CtuSet}
+use Rattle.standard.specs.Sets.{four}
 use Rattle.standard.specs.Reasons.{Planes}
 use Rattle.standard.proofs.Depths.{alike}
 use Rattle.promises.specs.World.{World, Deliver, Filter}
@@ -20,10 +21,10 @@ use Rattle.worlds.proofs.Events.{Setup, in_rows, world_at, lent, delivers, filte
 use Rattle.worlds.proofs.Lives.{Story, start, in_time, events_in, calls_all, events_all, ComputedDue, ComputedLife, Promised, promised, ends}
 
 abbrev pub edged : CtuSet
-edged = record { luma = Off; cb = Edge 1 (pos 2) (pos 1) (negsuc 0) (negsuc 1); cr = Edge 1 (pos 7) (pos 0) (pos 0) (negsuc 6) }
+edged = record { luma = Off; cb = Edge 1 (four (pos 2) (pos 1) (negsuc 0) (negsuc 1)); cr = Edge 1 (four (pos 7) (pos 0) (pos 0) (negsuc 6)) }
 
 abbrev pub banded : CtuSet
-banded = record { luma = Off; cb = Band 31 (pos 7) (negsuc 6) (pos 0) (pos 0); cr = Band 30 (pos 0) (negsuc 0) (pos 0) (pos 0) }
+banded = record { luma = Off; cb = Band 31 (four (pos 7) (negsuc 6) (pos 0) (pos 0)); cr = Band 30 (four (pos 0) (negsuc 0) (pos 0) (pos 0)) }
 
 -- a column of Cb and of Cr: eight samples, three times
 abbrev thrice : List ℕ → List ℕ
@@ -123,7 +124,7 @@ story format w = record {
       ∷ filters 0 3
       ∷ refuses (Filter 1 3) 11
       ∷ [];
-  strange = record { luma = Off; cb = Band 0 (pos 8) (pos 0) (pos 0) (pos 0); cr = Off };
+  strange = record { luma = Off; cb = Band 0 (four (pos 8) (pos 0) (pos 0) (pos 0)); cr = Off };
 }
 
 -- the output, component by component

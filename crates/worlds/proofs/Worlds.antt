@@ -13,7 +13,7 @@ use Rattle.standard.specs.declared.Picture.{Picture}
 use Rattle.standard.specs.declared.Offsets.TheVariants.{Band}
 use Rattle.standard.specs.declared.CtuSet.{CtuSet}
 use Rattle.standard.specs.Picture.{components, divisors, ctu_count}
-use Rattle.standard.specs.Sets.{switches_of}
+use Rattle.standard.specs.Sets.{four, switches_of}
 use Rattle.standard.specs.Bins.{bins_of}
 use Rattle.standard.specs.Samples.{plane_by}
 use Rattle.standard.specs.Table.{entry_size, encode_entry}
@@ -44,7 +44,7 @@ RefusedFrom n (t ∷ ts) = First (reasons_of t.0 t.1) n × (ours t.0 t.1 ≡ unc
 
 -- a set that no bins mean, and a room
 abbrev pub strange : CtuSet
-strange = of_luma (Band 32 (pos 0) (pos 0) (pos 0) (pos 0))
+strange = of_luma (Band 32 (four (pos 0) (pos 0) (pos 0) (pos 0)))
 
 abbrev pub two_bytes : List ℕ
 two_bytes = 0 ∷ 0 ∷ []
@@ -296,7 +296,7 @@ abbrev pub colour : Picture
 colour = record { width = 8; height = 8; ctb = 16; format = 1; depth = alike 8; luma = true; chroma = true }
 
 abbrev pub colourful : CtuSet
-colourful = record { luma = edgy.luma; cb = case5; cr = Band 31 (pos 7) (pos 0) (pos 0) (pos 0) }
+colourful = record { luma = edgy.luma; cb = case5; cr = Band 31 (four (pos 7) (pos 0) (pos 0) (pos 0)) }
 
 abbrev pub colours : List ℕ → List ℕ → List ℕ → Planes
 colours y cb cr = record { y = y; cb = cb; cr = cr }

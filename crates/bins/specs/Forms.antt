@@ -1,6 +1,6 @@
 -- The form of a CTU's bins, by what they mean once the neighbours' sets are known.
 use Rattle.std.specs.Prelude.{◌≡◌, Bool, true, false, List}
-use Rattle.std.proofs.Math.Option.{Option, some, none}
+use Rattle.std.specs.Prelude.{Option, Some as some, None as none}
 use Rattle.standard.specs.declared.CtuSet.{CtuSet}
 use Rattle.standard.specs.declared.Switches.{Switches}
 use Rattle.standard.specs.Means.{Means, Early, Remain}

@@ -1,6 +1,6 @@
 -- A CTU that is due, and entries that lie in the table.
 use Rattle.std.specs.Prelude.{List, ℕ, ◌+◌, ◌*◌, ◌≤◌, ◌<◌, length}
-use Rattle.std.proofs.Math.Option.{Option, some, none}
+use Rattle.std.specs.Prelude.{Option, Some as some, None as none}
 use Rattle.standard.specs.declared.State.{State}
 use Rattle.standard.specs.Picture.{Rules, ctu_count}
 use Rattle.standard.specs.Table.{entry_size}

@@ -1,7 +1,7 @@
 -- THE STAGE as an executable definition: the first of the call's reasons that holds refuses it, and where none holds it acts.
 use Rattle.std.specs.Prelude.{Bool, List, [], ℕ, zero, suc, ◌+◌, ◌*◌, min, length}
 use Rattle.std.proofs.Math.Logic.Dec
-use Rattle.std.proofs.Math.Option.{Option}
+use Rattle.std.specs.Prelude.{Option}
 use Rattle.std.proofs.Math.Decide.{ℕ_discrete}
 use Rattle.standard.specs.declared.Picture.{Picture}
 use Rattle.standard.specs.declared.State.{State}

@@ -1,6 +1,6 @@
 -- What the parts of a read answer: the set that a merge copies, and the reasons of the bins or the set that they mean.
 use Rattle.std.specs.Prelude.{◌≡◌, Bool, List, ℕ}
-use Rattle.std.proofs.Math.Option.{Option, some}
+use Rattle.std.specs.Prelude.{Option, Some as some}
 use Rattle.standard.specs.declared.State.{State}
 use Rattle.standard.specs.declared.Refusal.TheVariants.{Stored}
 use Rattle.standard.specs.declared.ReadAnswer.{ReadAnswer}

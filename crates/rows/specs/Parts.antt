@@ -1,6 +1,6 @@
 -- What the rows make of equal parts of the deblocked plane, sample by sample.
 use Rattle.std.specs.Prelude.{◌≡◌, List, ℕ, ◌≤◌, ◌<◌, length, get_or}
-use Rattle.std.proofs.Math.Option.{some}
+use Rattle.std.specs.Prelude.{Some as some}
 use Rattle.standard.specs.Samples.{band_idx, edge_idx_of}
 use Rattle.rows.specs.declared.Moves.{Moves}
 use Rattle.rows.specs.Moves.{moved}

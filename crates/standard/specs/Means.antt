@@ -1,6 +1,6 @@
 -- Which bins mean which set (H.265 7.3.8.3 and 7.4.9.3), of a CTU whose left and upper neighbours, where a merge may reach them, have these sets.
 use Rattle.std.specs.Prelude.{◌≡◌, Bool, true, false, List, [], ◌∷◌, ◌++◌, ◌≤◌, length}
-use Rattle.std.proofs.Math.Option.{Option, some, none}
+use Rattle.std.specs.Prelude.{Option, Some as some, None as none}
 use Rattle.standard.specs.declared.CtuSet.{CtuSet}
 use Rattle.standard.specs.declared.Switches.{Switches}
 use Rattle.standard.specs.Sets.{Valid, all_off}

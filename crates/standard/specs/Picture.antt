@@ -1,7 +1,7 @@
 -- The picture (document 01, "The picture"; H.265 6.2 and 6.3.1): its components, planes and CTBs, and the rules of a description.
 -- Components are numbered 0 luma, 1 Cb, 2 Cr; CTUs, and the CTBs of each component, in raster order.
 use Rattle.std.specs.Prelude.{◌≡◌, false, cond, ◌⊎◌, ℕ, zero, suc, ◌+◌, ◌-◌, ◌*◌, ◌/◌, ◌%◌, ◌≤◌, ◌<◌, min, eqb, ltb}
-use Rattle.std.proofs.Math.Option.{Option, some, none}
+use Rattle.std.specs.Prelude.{Option, Some as some, None as none}
 use Rattle.standard.specs.declared.Picture.{Picture}
 use Rattle.standard.specs.declared.State.{State}
 use Rattle.standard.specs.declared.Rectangle.{Rectangle}

@@ -1,7 +1,7 @@
 -- A set as bytes, in a call and in the table of the sets that are in (docs/CALLS.md): of luma, Cb and Cr each its type, its band position or
 -- class, and its four offsets, each plus 128. Off is six bytes of 0.
 use Rattle.std.specs.Prelude.{◌≡◌, List, [], ◌∷◌, ◌++◌, ℕ, zero, suc, ◌+◌, ◌-◌, ◌*◌, ℤ, pos, negsuc, get_or, take, drop}
-use Rattle.std.proofs.Math.Option.{Option, some, none}
+use Rattle.std.specs.Prelude.{Option, Some as some, None as none}
 use Rattle.std.proofs.Math.IntN.{sub_ℕ}
 use Rattle.standard.specs.declared.Picture.{Picture}
 use Rattle.standard.specs.declared.Four.{Four}

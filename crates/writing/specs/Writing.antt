@@ -1,6 +1,6 @@
 -- What stands beside the CTU that is due, as a write finds it; and the reasons of the set itself.
 use Rattle.std.specs.Prelude.{◌≡◌, Bool, List, [], ◌∷◌, ℕ, ◌*◌, ◌<◌, length}
-use Rattle.std.proofs.Math.Option.{Option}
+use Rattle.std.specs.Prelude.{Option}
 use Rattle.standard.specs.declared.CtuSet.{CtuSet}
 use Rattle.standard.specs.declared.State.{State}
 use Rattle.standard.specs.declared.WriteAnswer.{WriteAnswer}

@@ -1,6 +1,6 @@
 -- The form of the bins gives the answer, arm by arm; the neighbours' entries lie in the table.
 use borrow.Author.Rules.{rules}
-use mathlib.Core.Option.{Option}
+use Rattle.std.specs.Prelude.{Option}
 use mathlib.Core.Path.{◌≡◌, sym, subst, subst₂}
 use Prim.Native.Nat.{ℕ}
 use Rattle.standard.specs.Picture.{merge_left, merge_up}

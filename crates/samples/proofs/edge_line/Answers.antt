@@ -1,6 +1,6 @@
 -- The parts of the neighbours are as long as the row's, a step away.
 use mathlib.Core.Path.{◌≡◌}
-use mathlib.Core.Option.{Option}
+use Rattle.std.specs.Prelude.{Option}
 use Prim.Native.Nat.{ℕ, ◌+◌, ◌-◌, ◌≤◌}
 use native.Mathlib.Omega.{arith}
 use lib.ListN.{length}

@@ -1,6 +1,6 @@
 -- No neighbour has no entry; of a neighbour's entry, what is found there.
 use mathlib.Core.Path.{◌≡◌, sym, ap, subst, subst₂}
-use mathlib.Core.Option.{some}
+use Rattle.std.specs.Prelude.{Some as some}
 use Rattle.standard.specs.declared.Switches.{Switches}
 use Rattle.standard.specs.Sets.{switches_of}
 use Rattle.geometry.specs.declared.Near.{Near}

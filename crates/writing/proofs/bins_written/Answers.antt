@@ -1,5 +1,5 @@
 -- What stands beside the CTU is the definitions' left and upper set; with both within the rules, what the set's own reasons say.
-use mathlib.Core.Option.{Option}
+use Rattle.std.specs.Prelude.{Option}
 use mathlib.Core.Path.{◌≡◌, sym, subst, subst₂}
 use Prim.Native.Nat.{ℕ}
 use Rattle.standard.specs.Picture.{merge_left, merge_up}

@@ -1,3 +1,2 @@
-pub mod Counts
 pub mod Marks
 pub mod Neighbours

@@ -1,6 +1,5 @@
 -- The rectangle of CTBs around CTB k has exactly those that are adjacent to it, lies in the grid and is not empty;
 -- and a neighbour's number fixes the answer that names it.
-use mathlib.Core.Path.{◌≡◌, refl}
 use Prim.Native.Nat.{ℕ, ◌*◌, ◌/◌, ◌%◌, ◌<◌}
 use native.Mathlib.Nat.{mul_comm, div-lt_iff_lt-mul}
 use native.Mathlib.Omega.{arith}
@@ -8,9 +7,7 @@ use Rattle.standard.specs.declared.Picture.{Picture}
 use Rattle.standard.specs.Picture.{Rules, columns, rows, ctu_count, Inside, Adjacent}
 use Rattle.standard.proofs.Grid.{Ends, columns_least}
 use Rattle.standard.proofs.Rasters.{column_lt, row_lt}
-use Rattle.geometry.specs.declared.Near.{Near}
-use Rattle.geometry.specs.declared.Near.TheVariants.{Nothing, At}
-use Rattle.geometry.specs.Geometry.{around, near_of}
+use Rattle.geometry.specs.Geometry.{around}
 
 module _ {p : Picture} (rules : Rules p) (k : ℕ) where
   pub adjacent_inside : {j : ℕ} → Adjacent p k j → Inside (around p k) (j % columns p) (j / columns p)
@@ -40,9 +37,3 @@ module _ {p : Picture} (rules : Rules p) (k : ℕ) where
         bottom = omega arith;
         high = omega arith;
       }
-
-pub one_near : (a b : Near) → near_of a ≡ near_of b → a ≡ b
-one_near Nothing Nothing e = refl
-one_near Nothing (At k) e = cc
-one_near (At j) Nothing e = cc
-one_near (At j) (At k) e = cc

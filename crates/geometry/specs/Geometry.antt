@@ -1,12 +1,8 @@
 -- How the contracts of this crate state their results, over the definitions of the standard.
 use Rattle.std.specs.Prelude.{◌≡◌, ◌⊎◌, ℕ, ◌+◌, ◌-◌, ◌/◌, ◌%◌, ◌≤◌, ◌<◌, min}
-use Rattle.std.specs.Prelude.{Option, Some as some, None as none}
 use Rattle.standard.specs.declared.Picture.{Picture}
 use Rattle.standard.specs.declared.Rectangle.{Rectangle}
-use Rattle.standard.specs.Picture.{divisors, columns, rows}
-use Rattle.geometry.specs.declared.Divisors.{Divisors}
-use Rattle.geometry.specs.declared.Near.{Near}
-use Rattle.geometry.specs.declared.Near.TheVariants.{Nothing, At}
+use Rattle.standard.specs.Picture.{columns, rows}
 
 -- the rule of a CTB's size
 abbrev pub CtbSize : ℕ → Type 0
@@ -18,10 +14,6 @@ pub record Counted (n limit r : ℕ) : Type 0 where
   pub least : 0 < r
   pub most : r ≤ limit
 
-pub record Divided (format i : ℕ) (d : Divisors) : Type 0 where
-  pub across : d.across ≡ (divisors format i).0
-  pub down : d.down ≡ (divisors format i).1
-
 -- the columns and rows of CTB k and its up to eight neighbours, in the grid of CTBs
 unfoldable pub around : Picture → ℕ → Rectangle
 around p k = record {
@@ -30,8 +22,3 @@ around p k = record {
   y0 = k / columns p - 1;
   y1 = min (k / columns p + 2) (rows p);
 }
-
--- a neighbour's number, where there is one
-abbrev pub near_of : Near → Option ℕ
-near_of Nothing = none
-near_of (At k) = some k

@@ -1,1 +1,3 @@
 pub mod Geometry
+pub mod OneProof
+pub mod Dues

@@ -1,5 +1,4 @@
--- The rectangle of CTBs around CTB k has exactly those that are adjacent to it, lies in the grid and is not empty;
--- and a neighbour's number fixes the answer that names it.
+-- The rectangle of CTBs around CTB k has exactly those that are adjacent to it, lies in the grid and is not empty.
 use Prim.Native.Nat.{ℕ, ◌*◌, ◌/◌, ◌%◌, ◌<◌}
 use native.Mathlib.Nat.{mul_comm, div-lt_iff_lt-mul}
 use native.Mathlib.Omega.{arith}

@@ -2,7 +2,7 @@
 use mathlib.Core.Path.{◌≡◌, refl, sym, ap, ◌∙◌}
 use mathlib.Core.List.{List, []}
 use Prim.Native.Nat.{ℕ}
-use Rattle.std.specs.Prelude.{Ok, Err}
+use Rattle.std.specs.Prelude.{Ok, Err, IfOk}
 use Rattle.std.specs.Prelude as prelude
 use Rattle.standard.specs.declared.State.{State}
 use Rattle.standard.specs.declared.CtuSet.{CtuSet}
@@ -112,13 +112,14 @@ either_way : {T : Type 0} (rs : List Reason) (P : T → Type 0) (B : Type 0) (a 
 either_way rs P B (Ok x) (k, t) = t.0
 either_way rs P B (Err r) (f, t) = t
 
--- a verdict alone
-pub judged_pinned : (rs : List Reason) (a b : prelude.Result (Unit {0}) Refusal) → Judged rs a → Judged rs b → a ≡ b
-judged_pinned rs a b h k = decides_pinned rs _ _ _ _ (λ x y f g. refl) a b (decided a h) (decided b k)
+-- a verdict alone, with a value that V pins
+pub judged_pinned : {T : Type 0} (V : T → Type 0) → ((x y : T) → V x → V y → x ≡ y) → (rs : List Reason) (a b : prelude.Result T Refusal)
+    → Judged rs a → IfOk a V → Judged rs b → IfOk b V → a ≡ b
+judged_pinned {T} V pins rs a b h v k w = decides_pinned rs V V _ _ pins a b (decided a h v) (decided b k w)
   where
-    decided : (a : prelude.Result (Unit {0}) Refusal) → Judged rs a → Decides rs a (λ x. Unit {0}) (Unit {0})
-    decided (Ok x) h = (h, tt)
-    decided (Err r) h = (h, tt)
+    decided : (a : prelude.Result T Refusal) → Judged rs a → IfOk a V → Decides rs a V (Unit {0})
+    decided (Ok x) h v = (h, v)
+    decided (Err r) h v = (h, tt)
 
 -- ---- finished rows
 

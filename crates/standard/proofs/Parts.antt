@@ -1,12 +1,12 @@
 -- Reasons judged in two parts: the first that holds of the front, or of the back where none of the front does, is the first of all.
-use mathlib.Core.Path.{◌≡◌, refl, ◌∙◌}
+use mathlib.Core.Path.{◌≡◌, refl, sym, ◌∙◌, subst}
 use mathlib.Core.List.{List, [], ◌∷◌, ◌++◌}
 use mathlib.Core.Logic.{◌⊎◌, inl, inr}
 use Prim.Native.Nat.{ℕ}
-use Rattle.std.specs.Prelude.{Result, Ok, Err}
+use Rattle.std.specs.Prelude.{Result, Ok, Err, IsErrAnd}
 use Rattle.standard.specs.declared.Refusal.{Refusal}
 use Rattle.standard.specs.Refusals.{Reason, First, Clear, number_of}
-use Rattle.standard.specs.Ensures.{Judged}
+use Rattle.standard.specs.Ensures.{Judged, Decides}
 
 pub clear_front : (front back : List Reason) → Clear (front ++ back) → Clear front
 clear_front [] back c = tt
@@ -76,3 +76,13 @@ same_judged rs ts (Err r) s f = same_first rs ts (number_of r) s f
 pub judged_back : {T : Type 0} (front back : List Reason) (a : Result T Refusal) → Clear front → Judged back a → Judged (front ++ back) a
 judged_back front back (Ok x) c d = clear_both front back c d
 judged_back front back (Err r) c f = first_back front back (number_of r) c f
+
+-- a refusal for the front that `?` passes on, and what else is decided with it
+pub passed_on : {T : Type 0} (front back : List Reason) (r : Refusal) (a : Result T Refusal) → IsErrAnd a (λ e. e ≡ r) → First front (number_of r) → Judged (front ++ back) a
+passed_on front back r (Ok x) e f = absurd e
+passed_on front back r (Err t) e f = first_front front back (number_of t) (subst (λ (r : Refusal). First front (number_of r)) (sym e) f)
+
+pub passed_on_with : {T : Type 0} (front back : List Reason) (r : Refusal) (a : Result T Refusal) (done : T → Type 0) {before : Type 0} → IsErrAnd a (λ e. e ≡ r)
+    → First front (number_of r) → before → Decides (front ++ back) a done before
+passed_on_with front back r (Ok x) done e f b = absurd e
+passed_on_with front back r (Err t) done e f b = (first_front front back (number_of t) (subst (λ (r : Refusal). First front (number_of r)) (sym e) f), b)

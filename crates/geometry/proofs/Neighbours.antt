@@ -1,4 +1,7 @@
--- The rectangle of CTBs around CTB k has exactly those that are adjacent to it, lies in the grid and is not empty.
+-- The rectangle of CTBs around CTB k has exactly those that are adjacent to it, lies in the grid and is not empty;
+-- and a neighbour's number fixes the answer that names it.
+use Rattle.std.specs.Prelude.{Option}
+use mathlib.Core.Path.{◌≡◌, sym, ◌∙◌}
 use Prim.Native.Nat.{ℕ, ◌*◌, ◌/◌, ◌%◌, ◌<◌}
 use native.Mathlib.Nat.{mul_comm, div-lt_iff_lt-mul}
 use native.Mathlib.Omega.{arith}
@@ -36,3 +39,6 @@ module _ {p : Picture} (rules : Rules p) (k : ℕ) where
         bottom = omega arith;
         high = omega arith;
       }
+
+pub one_near : {a b n : Option ℕ} → a ≡ n → b ≡ n → a ≡ b
+one_near e f = e ∙ sym f

@@ -1,25 +1,36 @@
 -- What a call is lent has its right length; of what it is not lent nothing is asked.
-use Rattle.std.specs.Prelude.{◌≡◌, ℕ, ◌*◌}
+use Rattle.std.specs.Prelude.{◌≡◌, List, ℕ, ◌*◌, length, Option, Some, None}
+use denote.Ref.{Bor}
 use Rattle.standard.specs.declared.Picture.{Picture}
-use Rattle.standard.specs.Picture.{samples_of, ctu_count}
+use Rattle.standard.specs.declared.State.{State}
+use Rattle.standard.specs.Picture.{ctu_count}
 use Rattle.standard.specs.Table.{entry_size}
-use Rattle.standard.specs.Reasons.{mark_count}
+use Rattle.standard.specs.Reasons as reasons
+use Rattle.standard.specs.Reasons.{PlanesFit, mark_count}
+use Rattle.geometry.specs.declared.block.Block.{Block}
 use Rattle.lent.specs.declared.Lent.{Lent}
 use Rattle.lent.specs.declared.Planes.{Planes}
-use Rattle.lent.specs.declared.Planes.TheVariants as planes
-use Rattle.lent.specs.declared.Bytes.{Bytes}
-use Rattle.lent.specs.declared.Bytes.TheVariants as bytes
 
-abbrev pub PlanesRight : Picture → Planes → Type 0
-PlanesRight p planes.NotLent = Unit {0}
-PlanesRight p (planes.Lengths y cb cr) = (y ≡ samples_of p 0) × (cb ≡ samples_of p 1) × (cr ≡ samples_of p 2)
+-- the three planes as lists
+abbrev pub lists_of : Planes → reasons.Planes
+lists_of l = record { y = l.y.now; cb = l.cb.now; cr = l.cr.now }
 
-abbrev pub BytesRight : ℕ → Bytes → Type 0
-BytesRight n bytes.NotLent = Unit {0}
-BytesRight n (bytes.Length m) = m ≡ n
+abbrev pub PlanesRight : Picture → Option Planes → Type 0
+PlanesRight p None = Unit {0}
+PlanesRight p (Some l) = PlanesFit p (lists_of l)
+
+abbrev pub BytesRight : ℕ → Option (Bor (List ℕ)) → Type 0
+BytesRight n None = Unit {0}
+BytesRight n (Some b) = length b.now ≡ n
 
 pub record LentRight (p : Picture) (l : Lent) : Type 0 where
   pub deblocked : PlanesRight p l.deblocked
   pub filtered : PlanesRight p l.filtered
   pub marks : BytesRight (mark_count p) l.marks
   pub table : BytesRight (entry_size * ctu_count p) l.table
+
+-- the block that a call names
+pub record Names (s : State) (i k : ℕ) (b : Block) : Type 0 where
+  pub picture : b.of.picture ≡ s.picture
+  pub component : b.component ≡ i
+  pub ctb : b.ctb ≡ k

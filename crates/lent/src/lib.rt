@@ -1,177 +1,152 @@
-// What the calls share: the reasons with which they begin, and whether a CTU is due or a block is there.
+// What the calls share: what they are lent, the reasons with which they begin, and whether a CTU is due or a block is there.
 #![tactic(auto)]
 
-ghost use Rattle.std.specs.Prelude.{◌≡◌, ◌++◌};
-ghost use Rattle.standard.specs.Picture.{Rules, samples_of};
+ghost use Rattle.std.specs.Prelude.{◌≡◌, ◌<◌, ◌≤◌, ◌++◌, IfOk};
 ghost use Rattle.standard.specs.Refusals.{Tells};
-ghost use Rattle.standard.specs.Reasons.{description_reasons, lent_reasons, call_reasons, due_reasons, block_reasons};
+ghost use Rattle.standard.specs.Reasons.{PlanesFit, plane_of, description_reasons, lent_reasons, call_reasons, due_reasons, block_reasons};
 ghost use Rattle.standard.specs.Ensures.{Judged};
-ghost use Rattle.lent.specs.Lengths.{PlanesRight, BytesRight, LentRight};
+ghost use Rattle.geometry.specs.Dues.{state_of};
+ghost use Rattle.lent.specs.Lengths.{lists_of, PlanesRight, BytesRight, LentRight, Names};
 
-use standard::{Answer, Picture, Refusal, State};
+use geometry::{Block, Described, Due};
+use standard::{Refusal, State};
 
 // ---- what a call is lent
 
-// How long three planes are, luma, Cb and Cr; or the call is not lent them.
 #[derive(Clone, Copy)]
-pub enum Planes {
-    NotLent,
-    Lengths(usize, usize, usize),
+pub struct Planes<'a> {
+    pub y: &'a [u16],
+    pub cb: &'a [u16],
+    pub cr: &'a [u16],
 }
 
-// How long some bytes are; or the call is not lent them.
-#[derive(Clone, Copy)]
-pub enum Bytes {
-    NotLent,
-    Length(usize),
+impl<'a> Planes<'a> {
+    // Of a number that names no component, Cr's.
+    pub fn of(self, component: u8) -> &'a [u16]
+        ensures named { component < 3 → result.now ≡ plane_of (lists_of self.entry) component }
+        ensures other { 3 ≤ component → result.now ≡ self.entry.cr.now }
+    {
+        match component {
+            0 => self.y,
+            1 => self.cb,
+            _ => self.cr,
+        }
+    }
+
+    fn fit(self, of: Described) -> bool
+        ensures { Tells (PlanesFit of.picture (lists_of self.entry)) result }
+    {
+        self.y.len() == of.sample_count(0)
+            && self.cb.len() == of.sample_count(1)
+            && self.cr.len() == of.sample_count(2)
+    }
 }
 
-#[derive(Clone, Copy)]
-pub struct Lent {
-    pub deblocked: Planes,
-    pub filtered: Planes,
-    pub marks: Bytes,
-    pub table: Bytes,
+// None where the call is not lent it.
+#[derive(Clone, Copy, Default)]
+pub struct Lent<'a> {
+    pub deblocked: Option<Planes<'a>>,
+    pub filtered: Option<Planes<'a>>,
+    pub marks: Option<&'a [u8]>,
+    pub table: Option<&'a [u8]>,
 }
 
-fn three_right(p: Picture, y: usize, cb: usize, cr: usize) -> bool
-    requires { Rules p }
-    ensures { Tells ((y ≡ samples_of p 0) × (cb ≡ samples_of p 1) × (cr ≡ samples_of p 2)) result }
+fn planes_right(of: Described, planes: Option<Planes>) -> bool
+    ensures { Tells (PlanesRight of.picture planes.entry) result }
 {
-    if y != geometry::sample_count(p, 0) {
-        return false;
-    }
-    if cb != geometry::sample_count(p, 1) {
-        return false;
-    }
-    if cr != geometry::sample_count(p, 2) {
-        return false;
-    }
-    true
-}
-
-fn planes_right(p: Picture, l: Planes) -> bool
-    requires { Rules p }
-    ensures { Tells (PlanesRight p l) result }
-{
-    match l {
-        Planes::NotLent => true,
-        Planes::Lengths(y, cb, cr) => three_right(p, y, cb, cr),
+    match planes {
+        None => true,
+        Some(p) => p.fit(of),
     }
 }
 
-fn bytes_right(n: usize, l: Bytes) -> bool
-    ensures { Tells (BytesRight n l) result }
+fn bytes_right(n: usize, bytes: Option<&[u8]>) -> bool
+    ensures { Tells (BytesRight n bytes.entry) result }
 {
-    match l {
-        Bytes::NotLent => true,
-        Bytes::Length(m) => m == n,
+    match bytes {
+        None => true,
+        Some(b) => b.len() == n,
     }
 }
 
-fn lent_right(p: Picture, l: Lent) -> bool
-    requires { Rules p }
-    ensures { Tells (LentRight p l) result }
-{
-    let deblocked = l.deblocked;
-    if !planes_right(p, deblocked) {
-        return false;
+impl Lent<'_> {
+    fn right(self, of: Described) -> bool
+        ensures { Tells (LentRight of.picture self.entry) result }
+    {
+        planes_right(of, self.deblocked)
+            && planes_right(of, self.filtered)
+            && bytes_right(of.mark_count(), self.marks)
+            && bytes_right(of.table_size(), self.table)
     }
-    let filtered = l.filtered;
-    if !planes_right(p, filtered) {
-        return false;
-    }
-    let marks = l.marks;
-    if !bytes_right(geometry::mark_count(p), marks) {
-        return false;
-    }
-    let table = l.table;
-    bytes_right(geometry::table_size(p), table)
 }
 
 // ---- the reasons with which calls begin, in document 01's order
 
 // Of the description alone.
-pub fn described_answer(state: State) -> Answer
-    ensures { Judged (description_reasons state) result }
+pub fn described_answer(state: State) -> Result<Described, Refusal>
+    ensures verdict { Judged (description_reasons state) result }
+    ensures of_call { IfOk result (λ d. d.picture ≡ state.picture) }
 {
-    if !geometry::is_described(state.picture) {
-        return Answer::Refused(Refusal::Description);
-    }
-    Answer::Done
+    Described::of(state.picture).ok_or(Refusal::Description)
 }
 
 // And of what is lent.
-pub fn lent_answer(state: State, lent: Lent) -> Answer
-    ensures { Judged (lent_reasons state (LentRight state.picture lent)) result }
+pub fn lent_answer(state: State, lent: Lent) -> Result<Described, Refusal>
+    ensures verdict { Judged (lent_reasons state (LentRight state.picture lent.entry)) result }
+    ensures of_call { IfOk result (λ d. d.picture ≡ state.picture) }
+    ensures fits { IfOk result (λ d. LentRight state.picture lent.entry) }
 {
-    match described_answer(state) {
-        Answer::Refused(r) => Answer::Refused(r),
-        Answer::Done => {
-            if !lent_right(state.picture, lent) {
-                return Answer::Refused(Refusal::Length);
-            }
-            Answer::Done
-        }
+    let of = described_answer(state)?;
+    if !lent.right(of) {
+        return Err(Refusal::Length);
     }
+    Ok(of)
 }
 
 // And of the state.
-pub fn call_answer(state: State, lent: Lent) -> Answer
-    ensures { Judged (call_reasons state (LentRight state.picture lent)) result }
+pub fn call_answer(state: State, lent: Lent) -> Result<Described, Refusal>
+    ensures verdict { Judged (call_reasons state (LentRight state.picture lent.entry)) result }
+    ensures of_call { IfOk result (λ d. d.picture ≡ state.picture) }
+    ensures fits { IfOk result (λ d. LentRight state.picture lent.entry) }
 {
-    match lent_answer(state, lent) {
-        Answer::Refused(r) => Answer::Refused(r),
-        Answer::Done => {
-            if (state.next as usize) > geometry::ctu_count(state.picture) {
-                return Answer::Refused(Refusal::Stored);
-            }
-            Answer::Done
-        }
+    let of = lent_answer(state, lent)?;
+    if (state.next as usize) > of.ctu_count() {
+        return Err(Refusal::Stored);
     }
+    Ok(of)
 }
 
 // Of all with which calls begin, and whether a CTU is due.
-pub fn due_answer(state: State, lent: Lent) -> Answer
-    ensures { Judged (call_reasons state (LentRight state.picture lent) ++ due_reasons state) result }
+pub fn due_answer(state: State, lent: Lent) -> Result<Due, Refusal>
+    ensures verdict { Judged (call_reasons state (LentRight state.picture lent.entry) ++ due_reasons state) result }
+    ensures of_call { IfOk result (λ d. state_of d ≡ state) }
+    ensures fits { IfOk result (λ d. LentRight state.picture lent.entry) }
 {
-    match call_answer(state, lent) {
-        Answer::Refused(r) => Answer::Refused(r),
-        Answer::Done => {
-            if (state.next as usize) >= geometry::ctu_count(state.picture) {
-                return Answer::Refused(Refusal::AllRead);
-            }
-            Answer::Done
-        }
+    let of = call_answer(state, lent)?;
+    if (state.next as usize) >= of.ctu_count() {
+        return Err(Refusal::AllRead);
     }
+    Ok(Due {
+        of,
+        next: state.next,
+    })
 }
 
 // Of the description, and whether there is such a block.
-pub fn named_answer(state: State, component: u8, ctb: u32) -> Answer
-    ensures { Judged (description_reasons state ++ block_reasons state component ctb) result }
+pub fn named_answer(state: State, component: u8, ctb: u32) -> Result<Block, Refusal>
+    ensures verdict { Judged (description_reasons state ++ block_reasons state component ctb) result }
+    ensures of_call { IfOk result (Names state component ctb) }
 {
-    match described_answer(state) {
-        Answer::Refused(r) => Answer::Refused(r),
-        Answer::Done => {
-            if geometry::no_such_block(state.picture, component, ctb) {
-                return Answer::Refused(Refusal::NoSuchBlock);
-            }
-            Answer::Done
-        }
-    }
+    let of = described_answer(state)?;
+    of.block(component, ctb).ok_or(Refusal::NoSuchBlock)
 }
 
 // Of all with which calls begin, and whether there is such a block.
-pub fn block_answer(state: State, lent: Lent, component: u8, ctb: u32) -> Answer
-    ensures { Judged (call_reasons state (LentRight state.picture lent) ++ block_reasons state component ctb) result }
+pub fn block_answer(state: State, lent: Lent, component: u8, ctb: u32) -> Result<Block, Refusal>
+    ensures verdict { Judged (call_reasons state (LentRight state.picture lent.entry) ++ block_reasons state component ctb) result }
+    ensures of_call { IfOk result (Names state component ctb) }
+    ensures fits { IfOk result (λ b. LentRight state.picture lent.entry) }
 {
-    match call_answer(state, lent) {
-        Answer::Refused(r) => Answer::Refused(r),
-        Answer::Done => {
-            if geometry::no_such_block(state.picture, component, ctb) {
-                return Answer::Refused(Refusal::NoSuchBlock);
-            }
-            Answer::Done
-        }
-    }
+    let of = call_answer(state, lent)?;
+    of.block(component, ctb).ok_or(Refusal::NoSuchBlock)
 }

@@ -1,30 +1,10 @@
--- The first reasons, then whether a CTU is due.
-use mathlib.Core.Logic.{inl}
-use mathlib.Core.Path.{refl, subst}
-use mathlib.Core.List.{List}
-use native.Mathlib.Omega.{arith}
-use Rattle.standard.specs.Refusals.{Reason, Clear, number_of}
+-- A refusal with one of the first reasons is passed on.
 use Rattle.standard.specs.Reasons.{call_reasons, due_reasons}
-use Rattle.standard.specs.Ensures.{Judged}
-use Rattle.standard.proofs.Parts.{first_front, first_back}
-use Rattle.standard.proofs.Called.{called_rules}
+use Rattle.standard.proofs.Parts.{passed_on}
 use Rattle.lent.specs.Lengths.{LentRight}
 use Rattle.lent.proofs.due_answer.Goals as goal
-use Rattle.lent.proofs.due_answer.Goals.{In-Done}
 
-front : (c : In-Done) → Clear ((let a = c.args in call_reasons a.state (LentRight a.state.picture a.lent)))
-front c = subst (Judged ((let a = c.args in call_reasons a.state (LentRight a.state.picture a.lent)))) c.in-Done.is c.call_answer.ensures
-
-pub ctu_count-requires : goal.ctu_count-requires
-ctu_count-requires c = called_rules c.args.state (front (goal.at.ctu_count-requires c).In-Done)
-
-pub returns-then-state-ctu_count : goal.returns-then-state-ctu_count
-returns-then-state-ctu_count c =
-    let R : List Reason = let a = c.args in call_reasons a.state (LentRight a.state.picture a.lent) in
-    first_back (R) (due_reasons c.args.state) 7 (front (goal.at.returns-then-state-ctu_count c).In-Done) (inl (omega (arith, c.if-state-ctu_count.true, c.ctu_count.ensures.is), refl))
-
-pub returns-in-Refused : goal.returns-in-Refused
-returns-in-Refused c =
-    let R : List Reason = let a = c.args in call_reasons a.state (LentRight a.state.picture a.lent) in
-    first_front (R) (due_reasons c.args.state) (number_of c.in-Refused.r)
-    (subst (Judged (R)) c.in-Refused.is c.call_answer.ensures)
+pub returns-in_err-of-clause-verdict : goal.returns-in_err-of-clause-verdict
+returns-in_err-of-clause-verdict c =
+    let a = c.args in
+    passed_on (call_reasons a.state (LentRight a.state.picture a.lent)) (due_reasons a.state) _ c.from_residual.result c.from_residual.ensures.1 c.in_err-of.ensures.verdict

@@ -3,19 +3,19 @@ use mathlib.Core.Path.{◌≡◌, refl, sym, subst}
 use mathlib.Core.List.{[]}
 use Prim.Native.Nat.{ℕ, ◌<◌}
 use lib.IntN.{ℤ}
+use Rattle.standard.specs.declared.Four.{Four}
 use Rattle.standard.specs.declared.Offsets.{Offsets}
 use Rattle.standard.specs.declared.Offsets.TheVariants.{Off, Band, Edge}
 use Rattle.standard.specs.Sets.{Fits, Shares}
-use Rattle.standard.specs.Bins.{rest, rest_of_cr}
-use Rattle.standard.proofs.Elements.{Four}
-use Rattle.standard.proofs.Components.{edge_of, CrFits, After, cr_band_to}
-use Rattle.bins.specs.Values.{OfType, AfterCb, EdgeOffsetsFit, edge_offsets_bins, EdgeOf}
+use Rattle.standard.specs.Bins.{magnitudes, rest, rest_of_cr}
+use Rattle.standard.proofs.Components.{CrFits, After, cr_band_to}
+use Rattle.bins.specs.Values.{OfType, AfterCb, EdgeOffsetsFit, EdgeOf}
 
 -- an edge of this class, by its offsets
 pub edge_of_class : (m class : ℕ) → class < 4 → (o : Four ℤ) → EdgeOffsetsFit m o
-    → EdgeOf m class (edge_of class o) × (edge_offsets_bins m o ≡ rest_of_cr m (edge_of class o))
+    → EdgeOf m class (Edge class o) × (magnitudes m o ≡ rest_of_cr m (Edge class o))
 unfolding rest_of_cr
-edge_of_class m class h o i = (((i.0, h, i.1), o.0, o.1.0, o.1.1.0, o.1.1.1, refl), refl)
+edge_of_class m class h o i = (((i.0, h, i.1), o, refl), refl)
 
 -- what Cr is, by what Cb is
 module _ (m : ℕ) {cb : Offsets} where
@@ -23,21 +23,20 @@ module _ (m : ℕ) {cb : Offsets} where
   unfolding rest_of_cr
   off_after e = ((tt, subst (λ (o : Offsets). Shares o Off) (sym e) tt), refl)
 
-  pub band_after : {p : ℕ} {v1 v2 v3 v4 : ℤ} → cb ≡ Band p v1 v2 v3 v4 → (c : Offsets) → OfType 1 m c → AfterCb m cb c × (rest m c ≡ rest_of_cr m c)
-  band_after {p} {v1} {v2} {v3} {v4} e c i =
-      let t = cr_band_to m p v1 v2 v3 v4 c i in
+  pub band_after : {p : ℕ} {v : Four ℤ} → cb ≡ Band p v → (c : Offsets) → OfType 1 m c → AfterCb m cb c × (rest m c ≡ rest_of_cr m c)
+  band_after {p} {v} e c i =
+      let t = cr_band_to m p v c i in
       ((i.0, subst (λ (o : Offsets). Shares o c) (sym e) t.0.1), t.1)
 
-  pub edge_after : {class : ℕ} {v1 v2 v3 v4 : ℤ} → cb ≡ Edge class v1 v2 v3 v4 → (c : Offsets) → EdgeOf m class c
-      → AfterCb m cb c × (rest_of_cr m c ≡ rest_of_cr m c)
-  edge_after {class} {v1} {v2} {v3} {v4} e c (i, o1, o2, o3, o4, f) =
-      ((i, subst (λ (o : Offsets). Shares o c) (sym e) (subst (Shares (Edge class v1 v2 v3 v4)) (sym f) refl)), refl)
+  pub edge_after : {class : ℕ} {v : Four ℤ} → cb ≡ Edge class v → (c : Offsets) → EdgeOf m class c → AfterCb m cb c × (rest_of_cr m c ≡ rest_of_cr m c)
+  edge_after {class} {v} e c (i, o, f) =
+      ((i, subst (λ (o : Offsets). Shares o c) (sym e) (subst (Shares (Edge class v)) (sym f) refl)), refl)
 
 -- as Cr's code has it, which leaves out the rule of the class
 but_class : (m : ℕ) (c : Offsets) → Fits m c → CrFits m c
 but_class m Off i = tt
-but_class m (Band p o1 o2 o3 o4) i = i
-but_class m (Edge class o1 o2 o3 o4) i = (i.0, i.2)
+but_class m (Band p o) i = i
+but_class m (Edge class o) i = (i.0, i.2)
 
 pub after_code : (m : ℕ) (cb c : Offsets) → AfterCb m cb c → After m cb c × (rest_of_cr m c ≡ rest_of_cr m c)
 after_code m cb c i = ((but_class m c i.0, i.1), refl)

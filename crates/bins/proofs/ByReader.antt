@@ -2,23 +2,23 @@
 use mathlib.Core.Path.{◌≡◌, refl, sym, ap, ◌∙◌}
 use mathlib.Core.Bool.{Bool}
 use mathlib.Core.List.{List, [], ◌∷◌, ◌++◌, append_assoc, append-nil}
-use Prim.Native.Nat.{ℕ, ◌≤◌}
+use Rattle.std.specs.Prelude.{Some, None}
 use Rattle.standard.proofs.Codes.{Got, got, short, impossible, Code, Spelled}
 use Rattle.bins.specs.declared.Cursor.{Cursor}
-use Rattle.bins.specs.Takes.{bins_at, Taken, took, cut, Takes}
+use Rattle.bins.specs.Takes.{bins_at, SameBins, Taken, Takes}
 
 -- an answer of the code as an answer about lists: the bins beyond are those from the next cursor on
-abbrev pub seen : {A : Type 0} → List ℕ → Taken A → Got A
-seen bytes (took a next) = got a (bins_at bytes next)
-seen bytes cut = short
+abbrev pub seen : {A : Type 0} → Taken A → Got A
+seen (Some (a, next)) = got a (bins_at next)
+seen None = short
 
--- the cursor handed back is within the same count
+-- the cursor handed back is among the same bins
 abbrev pub Goes : {A : Type 0} → Cursor → Taken A → Type 0
-Goes c (took a next) = (next.at ≤ next.count) × (next.count ≡ c.count)
-Goes c cut = Unit {0}
+Goes c (Some (a, next)) = SameBins c next
+Goes c None = Unit {0}
 
-pub record Reads {A : Type 0} (bytes : List ℕ) (c : Cursor) (reader : List Bool → Got A) (r : Taken A) : Type 0 where
-  pub says : seen bytes r ≡ reader (bins_at bytes c)
+pub record Reads {A : Type 0} (c : Cursor) (reader : List Bool → Got A) (r : Taken A) : Type 0 where
+  pub says : seen r ≡ reader (bins_at c)
   pub goes : Goes c r
 
 not_nil : {X : Type 0} (l : List Bool) (b : Bool) (more : List Bool) → l ++ (b ∷ more) ≡ [] → X
@@ -40,20 +40,20 @@ module _ {A : Type 0} {P : A → Type 0} {f : A → List Bool} (code : Code (Spe
           sym (code.back a (f a) [] (record { holds = p; bins = refl })) ∙ ap code.read longer ∙ code.back v x.0 (beyond ++ (b ∷ more)) x.2 in
           not_nil beyond b more (cc)
 
-  module _ {bytes : List ℕ} {c : Cursor} where
-    pub takes : {r : Taken A} → Reads bytes c code.read r → Takes P f bytes c r
-    takes {r = took a next} h =
-        let x = code.only (bins_at bytes c) a (bins_at bytes next) (sym h.says) in
-        record { spells = (x.2.holds, x.1 ∙ ap (λ (w : List Bool). w ++ bins_at bytes next) x.2.bins, h.goes.0, h.goes.1) }
-    takes {r = cut} h =
-        let x = code.more (bins_at bytes c) (sym h.says) in
+  module _ {c : Cursor} where
+    pub takes : {r : Taken A} → Reads c code.read r → Takes P f c r
+    takes {r = Some (a, next)} h =
+        let x = code.only (bins_at c) a (bins_at next) (sym h.says) in
+        record { spells = (x.2.holds, x.1 ∙ ap (λ (w : List Bool). w ++ bins_at next) x.2.bins, h.goes) }
+    takes {r = None} h =
+        let x = code.more (bins_at c) (sym h.says) in
         record { spells = (x.2, x.0, x.1, x.3.holds, x.3.bins) }
 
-    pub reads : {r : Taken A} → Takes P f bytes c r → Reads bytes c code.read r
-    reads {r = took a next} h = record {
-      says = sym (ap code.read h.spells.1 ∙ code.back a (f a) (bins_at bytes next) (record { holds = h.spells.0; bins = refl }));
-      goes = (h.spells.2, h.spells.3);
+    pub reads : {r : Taken A} → Takes P f c r → Reads c code.read r
+    reads {r = Some (a, next)} h = record {
+      says = sym (ap code.read h.spells.1 ∙ code.back a (f a) (bins_at next) (record { holds = h.spells.0; bins = refl }));
+      goes = h.spells.2;
     }
-    reads {r = cut} h =
+    reads {r = None} h =
         let (a, b, more, p, e) = h.spells in
-        record { says = sym (begun_is_short (bins_at bytes c) a b more p e); goes = tt }
+        record { says = sym (begun_is_short (bins_at c) a b more p e); goes = tt }

@@ -42,16 +42,17 @@ five_sum : (g0 g1 g2 g3 g4 n40 n32 n24 n16 n8 : ℕ)
 five_sum g0 g1 g2 g3 g4 n40 n32 n24 n16 n8 e0 e1 e2 e3 e4 = omega arith
 
 -- forty bits are five bytes
-pub five_number : (s : List ℕ) (q : ℕ) → ((i : ℕ) → get_or s i 0 < 256)
+pub five_number : (s : List ℕ) (q : ℕ)
+    → get_or s q 0 < 256 → get_or s (q + 1) 0 < 256 → get_or s (q + 2) 0 < 256 → get_or s (q + 3) 0 < 256 → get_or s (q + 4) 0 < 256
     → get_or s q 0 * 2 ^ 32 + get_or s (q + 1) 0 * 2 ^ 24 + get_or s (q + 2) 0 * 2 ^ 16 + get_or s (q + 3) 0 * 2 ^ 8 + get_or s (q + 4) 0
     ≡ number 40 (drop (8 * q) (bits_of s))
-five_number s q h =
+five_number s q h0 h1 h2 h3 h4 =
     five_sum (get_or s q 0) (get_or s (q + 1) 0) (get_or s (q + 2) 0) (get_or s (q + 3) 0) (get_or s (q + 4) 0) _ _ _ _ _
-    (byte_step s q (q + 1) 32 (h q) refl)
-    (byte_step s (q + 1) (q + 2) 24 (h (q + 1)) (omega arith))
-    (byte_step s (q + 2) (q + 3) 16 (h (q + 2)) (omega arith))
-    (byte_step s (q + 3) (q + 4) 8 (h (q + 3)) (omega arith))
-    (byte_number s (q + 4) ∙ mod-eq_of_lt (h (q + 4)))
+    (byte_step s q (q + 1) 32 h0 refl)
+    (byte_step s (q + 1) (q + 2) 24 h1 (omega arith))
+    (byte_step s (q + 2) (q + 3) 16 h2 (omega arith))
+    (byte_step s (q + 3) (q + 4) 8 h3 (omega arith))
+    (byte_number s (q + 4) ∙ mod-eq_of_lt h4)
 
 -- ---- the window out of the forty bits
 

@@ -4,6 +4,7 @@ pub mod Fetch
 pub mod Readers
 pub mod ByReader
 pub mod Steps
+pub mod Fours
 pub mod Places
 pub mod SmallNumbers
 pub mod AfterCb

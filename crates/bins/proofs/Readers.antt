@@ -7,13 +7,13 @@ use native.Mathlib.Nat.{le_of_suc-le-suc, not-suc-le-zero}
 use lib.Dec.{eqb}
 use lib.IntN.{pos, neg_ℤ}
 use lib.ListN.{length, drop}
-use Rattle.standard.specs.declared.Offsets.TheVariants.{Off}
+use Rattle.standard.specs.declared.Offsets.TheVariants.{Off, Edge}
 use Rattle.standard.specs.declared.Switches.{Switches}
-use Rattle.standard.specs.Sets.{most}
+use Rattle.standard.specs.Sets.{four, most}
 use Rattle.standard.specs.Bins.{number}
 use Rattle.standard.proofs.Codes.{Got, got, short, then, Code, Spelled, pure, read_bit, bit, both, as_code, in_turn, said_of}
-use Rattle.standard.proofs.Elements.{with_high, fixed_code, after_bit, truncated_code, sign_code, Four, magnitudes_code, signs_code}
-use Rattle.standard.proofs.Components.{band_of, band_code, edge_signed, edge_signed_code, edge_of, edge_code, rest_code, component_code, cr_code, chroma_code}
+use Rattle.standard.proofs.Elements.{with_high, fixed_code, after_bit, truncated_code, sign_code, four_code, magnitudes_code, signs_code}
+use Rattle.standard.proofs.Components.{band_of, band_code, edge_signed, edge_signed_code, edge_code, rest_code, component_code, cr_code, chroma_code}
 use Rattle.standard.proofs.Ctu.{luma_code, two_code, ctu_set, full_code}
 use Rattle.bins.proofs.Ones.{ones}
 
@@ -152,34 +152,17 @@ unfolding sign_code said_of as_code
 sign_some zero l h = absurd (h refl)
 sign_some (suc n) l h = refl
 
--- ---- four magnitudes, and four offsets of these magnitudes
+-- ---- four in turn: magnitudes, and the offsets of these magnitudes
 
-pub magnitudes_read : (m : ℕ) (l : List Bool) → (magnitudes_code m).read l
-    ≡ then ((truncated_code m).read l) (λ v1 l.
-    then ((truncated_code m).read l) (λ v2 l.
-    then ((truncated_code m).read l) (λ v3 l.
-    then ((truncated_code m).read l) (λ v4 l. got (v1, (v2, (v3, v4))) l))))
-unfolding magnitudes_code
-magnitudes_read m l =
-    let c = truncated_code m in
-    in_turn_read c (λ a. in_turn c (λ b. in_turn c (λ d. c))) l
-    ∙ then_same (c.read l) (λ v1 l. in_turn_then c (λ b. in_turn c (λ d. c)) l (λ t l. got (v1, t) l)
-    ∙ then_same (c.read l) (λ v2 l. in_turn_then c (λ d. c) l (λ t l. got (v1, (v2, t)) l)))
-
-pub signs_read : (t : Four ℕ) (l : List Bool) → (signs_code t).read l
-    ≡ then ((sign_code t.0).read l) (λ o1 l.
-    then ((sign_code t.1.0).read l) (λ o2 l.
-    then ((sign_code t.1.1.0).read l) (λ o3 l.
-    then ((sign_code t.1.1.1).read l) (λ o4 l. got (o1, (o2, (o3, o4))) l))))
-unfolding signs_code
-signs_read t l =
-    let c1 = sign_code t.0 in
-    let c2 = sign_code t.1.0 in
-    let c3 = sign_code t.1.1.0 in
-    let c4 = sign_code t.1.1.1 in
-    in_turn_read c1 (λ a. in_turn c2 (λ b. in_turn c3 (λ d. c4))) l
-    ∙ then_same (c1.read l) (λ o1 l. in_turn_then c2 (λ b. in_turn c3 (λ d. c4)) l (λ t l. got (o1, t) l)
-    ∙ then_same (c2.read l) (λ o2 l. in_turn_then c3 (λ d. c4) l (λ t l. got (o1, (o2, t)) l)))
+module _ {A : Type 0} {P1 P2 P3 P4 : A → Type 0} {f : A → List Bool}
+    (c1 : Code (Spelled P1 f)) (c2 : Code (Spelled P2 f)) (c3 : Code (Spelled P3 f)) (c4 : Code (Spelled P4 f)) where
+  pub four_read : (l : List Bool) → (four_code c1 c2 c3 c4).read l
+      ≡ then (c1.read l) (λ o1 l. then (c2.read l) (λ o2 l. then (c3.read l) (λ o3 l. then (c4.read l) (λ o4 l. got (four o1 o2 o3 o4) l))))
+  unfolding four_code said_of as_code
+  four_read l =
+      in_turn_then c1 (λ a. in_turn c2 (λ b. in_turn c3 (λ d. c4))) l (λ t l. got (four t.0 t.1.0 t.1.1.0 t.1.1.1) l)
+      ∙ then_same (c1.read l) (λ o1 l. in_turn_then c2 (λ b. in_turn c3 (λ d. c4)) l (λ t l. got (four o1 t.0 t.1.0 t.1.1) l)
+      ∙ then_same (c2.read l) (λ o2 l. in_turn_then c3 (λ d. c4) l (λ t l. got (four o1 o2 t.0 t.1) l)))
 
 -- ---- a band, an edge
 
@@ -197,9 +180,9 @@ unfolding edge_signed_code said_of as_code
 edge_offsets_read m l = refl
 
 pub edge_read : (m : ℕ) (l : List Bool) → (edge_code m).read l
-    ≡ then ((edge_signed_code m).read l) (λ z l. then ((fixed_code 2).read l) (λ k l. got (edge_of k z) l))
+    ≡ then ((edge_signed_code m).read l) (λ z l. then ((fixed_code 2).read l) (λ k l. got (Edge k z) l))
 unfolding edge_code said_of as_code
-edge_read m l = in_turn_then (edge_signed_code m) (λ z. fixed_code 2) l (λ t l. got (edge_of t.1 t.0) l)
+edge_read m l = in_turn_then (edge_signed_code m) (λ z. fixed_code 2) l (λ t l. got (Edge t.1 t.0) l)
 
 -- ---- a component, by its type
 

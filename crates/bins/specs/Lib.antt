@@ -1,4 +1,3 @@
 pub mod Takes
 pub mod Values
-pub mod Views
 pub mod Forms

@@ -1,12 +1,13 @@
 -- The values that the code takes from bins, and the bins of each, by the standard's definitions.
 use Rattle.std.specs.Prelude.{◌≡◌, Bool, true, false, List, [], ◌∷◌, ◌++◌, ℕ, ◌≤◌, ℤ, nat_abs}
+use Rattle.standard.specs.declared.Four.{Four}
 use Rattle.standard.specs.declared.Offsets.{Offsets}
 use Rattle.standard.specs.declared.Offsets.TheVariants.{Off, Edge}
 use Rattle.standard.specs.declared.Switches.{Switches}
 use Rattle.standard.specs.Sets.{Small, EdgeSigns, Fits, Shares, Ruled, Valid}
-use Rattle.standard.specs.Bins.{truncated, magnitudes, signs, type_idx, type_bins, rest, rest_of_cr, when, full}
+use Rattle.standard.specs.Bins.{truncated, type_idx, type_bins, rest, rest_of_cr, when, full}
 use Rattle.bins.specs.declared.Form.{Form}
-use Rattle.bins.specs.declared.Form.TheVariants.{Left, Up, Full, TooEarly, BinsRemain}
+use Rattle.bins.specs.declared.Form.TheVariants.{Left, Up, Full}
 
 -- ---- the syntax elements
 
@@ -17,33 +18,23 @@ AnyBin b = Unit {0}
 abbrev pub bin_of : Bool → List Bool
 bin_of b = b ∷ []
 
--- four values, of the offsets 1 to 4
-abbrev pub Quad : Type 0 → Type 0
-Quad A = A × (A × (A × A))
-
 -- four magnitudes of at most m
-abbrev pub MagnitudesFit : ℕ → Quad ℕ → Type 0
-MagnitudesFit m v = (v.0 ≤ m) × ((v.1.0 ≤ m) × ((v.1.1.0 ≤ m) × (v.1.1.1 ≤ m)))
+abbrev pub MagnitudesFit : ℕ → Four ℕ → Type 0
+MagnitudesFit m v = (v.o1 ≤ m) × ((v.o2 ≤ m) × ((v.o3 ≤ m) × (v.o4 ≤ m)))
 
-abbrev pub magnitudes_bins : ℕ → Quad ℕ → List Bool
-magnitudes_bins m v = truncated m v.0 ++ (truncated m v.1.0 ++ (truncated m v.1.1.0 ++ truncated m v.1.1.1))
+abbrev pub magnitudes_bins : ℕ → Four ℕ → List Bool
+magnitudes_bins m v = truncated m v.o1 ++ (truncated m v.o2 ++ (truncated m v.o3 ++ truncated m v.o4))
 
 -- an offset of magnitude v, and four of these magnitudes
 abbrev pub OfSize : ℕ → ℤ → Type 0
 OfSize v o = nat_abs o ≡ v
 
-abbrev pub OfSizes : Quad ℕ → Quad ℤ → Type 0
-OfSizes v o = OfSize v.0 o.0 × (OfSize v.1.0 o.1.0 × (OfSize v.1.1.0 o.1.1.0 × OfSize v.1.1.1 o.1.1.1))
-
-abbrev pub signs_bins : Quad ℤ → List Bool
-signs_bins o = signs o.0 o.1.0 o.1.1.0 o.1.1.1
+abbrev pub OfSizes : Four ℕ → Four ℤ → Type 0
+OfSizes v o = OfSize v.o1 o.o1 × (OfSize v.o2 o.o2 × (OfSize v.o3 o.o3 × OfSize v.o4 o.o4))
 
 -- an edge's offsets
-abbrev pub EdgeOffsetsFit : ℕ → Quad ℤ → Type 0
-EdgeOffsetsFit m o = Small m o.0 o.1.0 o.1.1.0 o.1.1.1 × EdgeSigns o.0 o.1.0 o.1.1.0 o.1.1.1
-
-abbrev pub edge_offsets_bins : ℕ → Quad ℤ → List Bool
-edge_offsets_bins m o = magnitudes m o.0 o.1.0 o.1.1.0 o.1.1.1
+abbrev pub EdgeOffsetsFit : ℕ → Four ℤ → Type 0
+EdgeOffsetsFit m o = Small m o × EdgeSigns o
 
 -- ---- a component
 
@@ -56,7 +47,7 @@ abbrev pub AfterCb : ℕ → Offsets → Offsets → Type 0
 AfterCb m cb c = Fits m c × Shares cb c
 
 abbrev pub EdgeOf : ℕ → ℕ → Offsets → Type 0
-EdgeOf m class c = Fits m c × (o1 : ℤ) × (o2 : ℤ) × (o3 : ℤ) × (o4 : ℤ) × (c ≡ Edge class o1 o2 o3 o4)
+EdgeOf m class c = Fits m c × (o : Four ℤ) × (c ≡ Edge class o)
 
 -- Cb and Cr, whose largest magnitudes are m and n
 abbrev pub CbAndCrFit : ℕ → ℕ → Offsets × Offsets → Type 0
@@ -92,12 +83,8 @@ abbrev pub FormFits : Switches → Bool → Bool → Form → Type 0
 FormFits s has_left has_up Left = has_left ≡ true
 FormFits s has_left has_up Up = has_up ≡ true
 FormFits s has_left has_up (Full q) = Valid s q
-FormFits s has_left has_up TooEarly = ⊥
-FormFits s has_left has_up BinsRemain = ⊥
 
 abbrev pub bins_of_form : Switches → Bool → Bool → Form → List Bool
 bins_of_form s has_left has_up Left = true ∷ []
 bins_of_form s has_left has_up Up = merge_bins has_left false ++ (true ∷ [])
 bins_of_form s has_left has_up (Full q) = merge_bins has_left false ++ (merge_bins has_up false ++ full s q)
-bins_of_form s has_left has_up TooEarly = []
-bins_of_form s has_left has_up BinsRemain = []

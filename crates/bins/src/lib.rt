@@ -3,105 +3,42 @@
 // bin more; or the bins end within those of a value.
 #![tactic(auto)]
 
-ghost use Rattle.std.specs.Prelude.{◌≡◌, cond, true, ◌++◌, ℕ, ◌*◌, ◌^◌, ◌≤◌, ◌<◌, pos, neg_ℤ, length, drop, get_or};
+ghost use Rattle.std.specs.Prelude.{◌≡◌, cond, true, ◌++◌, ℕ, ◌+◌, ◌*◌, ◌^◌, ◌≤◌, ◌<◌, pos, neg_ℤ, length, drop, get_or};
 ghost use Rattle.standard.specs.Sets.{Fits, Valid};
-ghost use Rattle.standard.specs.Bins.{truncated, fixed_length, sign_bins, type_bins, rest, rest_of_cr, full, bits_of, bins_of, number};
+ghost use Rattle.standard.specs.Bins.{truncated, fixed_length, sign_bins, signs, magnitudes, type_bins, rest, rest_of_cr, full, bits_of, bins_of, number};
 ghost use Rattle.standard.specs.Means.{any_on};
-ghost use Rattle.bins.specs.Takes.{Within, bins_at, Takes};
-ghost use Rattle.bins.specs.Values.{AnyBin, bin_of, MagnitudesFit, magnitudes_bins, OfSize, OfSizes, signs_bins, EdgeOffsetsFit, edge_offsets_bins};
+ghost use Rattle.bins.specs.Values.{AnyBin, bin_of, MagnitudesFit, magnitudes_bins, OfSize, OfSizes, EdgeOffsetsFit};
 ghost use Rattle.bins.specs.Values.{OfType, AfterCb, EdgeOf, CbAndCrFit, cb_and_cr_bins, LumaBySwitch, luma_bins_by_switch, ChromaBySwitch, chroma_bins_by_switch};
 ghost use Rattle.bins.specs.Values.{MergeFits, merge_bins, FormFits, bins_of_form};
-ghost use Rattle.bins.specs.Views.{flag_taken, number_taken, four, magnitudes_taken, offset_taken, signed_taken, component_taken, chroma_taken, set_taken, form_taken};
 ghost use Rattle.bins.specs.Forms.{ReadAs};
 
-use standard::{CtuSet, Offsets, Switches};
+use geometry::Most;
+use standard::{CtuSet, Four, Offsets, Switches};
 
-// A place in the bins, and how many of them there are.
+// A place in the bins, which are the first `count` bits of the bytes.
 #[derive(Clone, Copy)]
-struct Cursor {
+struct Cursor<'a> {
+    bytes: &'a [u8],
     at: usize,
     count: usize,
+    ghost place: { at ≤ count },
+    ghost room: { count ≤ 8 * length bytes.now },
 }
 
 // What is taken is a value and the cursor after it; or the bins end before the value does.
-#[derive(Clone, Copy)]
-enum FlagTaken {
-    Value(bool, Cursor),
-    Short,
-}
+type Taken<'a, T> = Option<(T, Cursor<'a>)>;
 
-#[derive(Clone, Copy)]
-enum NumberTaken {
-    Value(u32, Cursor),
-    Short,
-}
-
-// Four magnitudes, of the offsets 1 to 4.
-#[derive(Clone, Copy)]
-struct Magnitudes {
-    v1: u32,
-    v2: u32,
-    v3: u32,
-    v4: u32,
-}
-
-#[derive(Clone, Copy)]
-enum MagnitudesTaken {
-    Value(Magnitudes, Cursor),
-    Short,
-}
-
-#[derive(Clone, Copy)]
-enum OffsetTaken {
-    Value(i8, Cursor),
-    Short,
-}
-
-// Four offsets.
-#[derive(Clone, Copy)]
-struct Signed {
-    o1: i8,
-    o2: i8,
-    o3: i8,
-    o4: i8,
-}
-
-#[derive(Clone, Copy)]
-enum SignedTaken {
-    Value(Signed, Cursor),
-    Short,
-}
-
-#[derive(Clone, Copy)]
-enum ComponentTaken {
-    Value(Offsets, Cursor),
-    Short,
-}
-
-#[derive(Clone, Copy)]
-enum ChromaTaken {
-    Value(Offsets, Offsets, Cursor),
-    Short,
-}
-
-#[derive(Clone, Copy)]
-enum SetTaken {
-    Value(CtuSet, Cursor),
-    Short,
-}
-
-#[derive(Clone, Copy)]
-enum FormTaken {
-    Value(Form, Cursor),
-    Short,
-}
-
-// The form that a CTU's bins have: a merge, whose set is the neighbour's, or a set in full; or what is wrong with them.
-#[derive(Clone, Copy)]
+// The form that a CTU's bins have: a merge, whose set is the neighbour's, or a set in full.
+#[derive(Clone, Copy, PartialEq, Eq)]
 pub enum Form {
     Left,
     Up,
     Full(CtuSet),
+}
+
+// What is wrong with bins that have no form: they end too early, or some remain after it.
+#[derive(Clone, Copy, PartialEq, Eq)]
+pub enum BinsError {
     TooEarly,
     BinsRemain,
 }
@@ -135,392 +72,292 @@ fn offset(v: u32, negative: bool) -> i8
     if negative { (0 - n) as i8 } else { n as i8 }
 }
 
-impl Cursor {
+impl<'a> Cursor<'a> {
+    ghost use Rattle.bins.specs.Takes.{bins_at, Past, Takes};
+
     // The 32 bins from here on as a number, the first one highest. Bits at the count and past it are no bins, and are 0
     // here, so that a magnitude that the count cuts short shows as short.
-    fn window(self, bytes: &[u8]) -> u32
-        requires { Within bytes.now self }
-        ensures { result ≡ number 32 (bins_at bytes.now self) }
+    fn window(self) -> u32
+        ensures { result ≡ number 32 (bins_at self.entry) }
     {
         let at = self.at;
-        let w = forty(bytes, at / 8) << (24 + at % 8) >> 32;
+        let w = forty(self.bytes, at / 8) << (24 + at % 8) >> 32;
         let left = self.count - at;
         if left < 32 {
-            let past = 32 - left;
-            (w >> past << past) as u32
+            let missing = 32 - left;
+            (w >> missing << missing) as u32
         } else {
             w as u32
         }
     }
 
-    // A magnitude of at most m: its ones are the leading zeros of the window's complement. M itself has no zero after it.
-    fn magnitude(self, bytes: &[u8], m: u32) -> NumberTaken
-        requires within { Within bytes.now self }
-        requires m_bound { m < 32 }
-        ensures { Takes (λ v. v ≤ m) (truncated m) bytes.now self (number_taken result) }
+    // The cursor n bins on.
+    fn past(self, n: usize) -> Cursor<'a>
+        requires { self.at + n ≤ self.count }
+        ensures { Past self.entry n result }
     {
-        let at = self.at;
-        let count = self.count;
-        let ones = u32::leading_zeros(!self.window(bytes));
-        if ones >= m {
-            return NumberTaken::Value(
-                m,
-                Cursor {
-                    at: at + m as usize,
-                    count,
-                },
-            );
+        Cursor {
+            bytes: self.bytes,
+            at: self.at + n,
+            count: self.count,
         }
-        if (ones as usize) < count - at {
-            return NumberTaken::Value(
-                ones,
-                Cursor {
-                    at: at + ones as usize + 1,
-                    count,
-                },
-            );
+    }
+
+    // A magnitude of at most M: its ones are the leading zeros of the window's complement. M itself has no zero after it.
+    fn magnitude(self, m: Most) -> Taken<'a, u32>
+        ensures { Takes (λ v. v ≤ m.value) (truncated m.value) self.entry result }
+    {
+        let ones = u32::leading_zeros(!self.window());
+        if ones >= m.value {
+            return Some((m.value, self.past(m.value as usize)));
         }
-        NumberTaken::Short
+        if (ones as usize) < self.count - self.at {
+            return Some((ones, self.past(ones as usize + 1)));
+        }
+        None
     }
 
     // A number of `width` bins, the highest first.
-    fn fixed(self, bytes: &[u8], width: u32) -> NumberTaken
-        requires within { Within bytes.now self }
-        requires width_nonzero { (0 < width) × (width < 32) }
-        ensures { Takes (λ v. v < 2 ^ width) (fixed_length width) bytes.now self (number_taken result) }
+    fn fixed(self, width: u32) -> Taken<'a, u32>
+        requires { (0 < width) × (width < 32) }
+        ensures { Takes (λ v. v < 2 ^ width) (fixed_length width) self.entry result }
     {
-        let at = self.at;
-        let count = self.count;
-        if count - at < width as usize {
-            return NumberTaken::Short;
+        if self.count - self.at < width as usize {
+            return None;
         }
-        let v = self.window(bytes) >> (32 - width);
-        NumberTaken::Value(
-            v,
-            Cursor {
-                at: at + width as usize,
-                count,
-            },
-        )
+        let v = self.window() >> (32 - width);
+        Some((v, self.past(width as usize)))
     }
 
-    fn flag(self, bytes: &[u8]) -> FlagTaken
-        requires { Within bytes.now self }
-        ensures { Takes AnyBin bin_of bytes.now self (flag_taken result) }
+    fn flag(self) -> Taken<'a, bool>
+        ensures { Takes AnyBin bin_of self.entry result }
     {
-        let NumberTaken::Value(v, next) = self.fixed(bytes, 1) else {
-            return FlagTaken::Short;
-        };
-        FlagTaken::Value(v == 1, next)
+        let (v, next) = self.fixed(1)?;
+        Some((v == 1, next))
     }
 
-    // Four magnitudes of at most m.
-    fn magnitudes(self, bytes: &[u8], m: u32) -> MagnitudesTaken
-        requires within { Within bytes.now self }
-        requires m_bound { m < 32 }
-        ensures { Takes (MagnitudesFit m) (magnitudes_bins m) bytes.now self (magnitudes_taken result) }
+    // Four magnitudes of at most M.
+    fn magnitudes(self, m: Most) -> Taken<'a, Four<u32>>
+        ensures { Takes (MagnitudesFit m.value) (magnitudes_bins m.value) self.entry result }
     {
-        let NumberTaken::Value(v1, c1) = self.magnitude(bytes, m) else {
-            return MagnitudesTaken::Short;
-        };
-        let NumberTaken::Value(v2, c2) = c1.magnitude(bytes, m) else {
-            return MagnitudesTaken::Short;
-        };
-        let NumberTaken::Value(v3, c3) = c2.magnitude(bytes, m) else {
-            return MagnitudesTaken::Short;
-        };
-        let NumberTaken::Value(v4, c4) = c3.magnitude(bytes, m) else {
-            return MagnitudesTaken::Short;
-        };
-        MagnitudesTaken::Value(Magnitudes { v1, v2, v3, v4 }, c4)
+        let (o1, c1) = self.magnitude(m)?;
+        let (o2, c2) = c1.magnitude(m)?;
+        let (o3, c3) = c2.magnitude(m)?;
+        let (o4, c4) = c3.magnitude(m)?;
+        Some((Four { o1, o2, o3, o4 }, c4))
     }
 
     // The offset of magnitude v: 0 has no sign bin.
-    fn sign(self, bytes: &[u8], v: u32) -> OffsetTaken
-        requires within { Within bytes.now self }
-        requires v_bound { v < 32 }
-        ensures { Takes (OfSize v) sign_bins bytes.now self (offset_taken result) }
+    fn sign(self, v: u32) -> Taken<'a, i8>
+        requires { v < 32 }
+        ensures { Takes (OfSize v) sign_bins self.entry result }
     {
         if v == 0 {
-            return OffsetTaken::Value(0, self);
+            return Some((0, self));
         }
-        let FlagTaken::Value(negative, next) = self.flag(bytes) else {
-            return OffsetTaken::Short;
-        };
-        OffsetTaken::Value(offset(v, negative), next)
+        let (negative, next) = self.flag()?;
+        Some((offset(v, negative), next))
     }
 
     // The offsets of four magnitudes.
-    fn signs(self, bytes: &[u8], f: Magnitudes) -> SignedTaken
-        requires within { Within bytes.now self }
-        requires v1_bound { (f.v1 < 32) × (f.v2 < 32) × (f.v3 < 32) × (f.v4 < 32) }
-        ensures { Takes (OfSizes (four f)) signs_bins bytes.now self (signed_taken result) }
+    fn signs(self, f: Four<u32>) -> Taken<'a, Four<i8>>
+        requires { (f.o1 < 32) × (f.o2 < 32) × (f.o3 < 32) × (f.o4 < 32) }
+        ensures { Takes (OfSizes f) signs self.entry result }
     {
-        let OffsetTaken::Value(o1, c1) = self.sign(bytes, f.v1) else {
-            return SignedTaken::Short;
-        };
-        let OffsetTaken::Value(o2, c2) = c1.sign(bytes, f.v2) else {
-            return SignedTaken::Short;
-        };
-        let OffsetTaken::Value(o3, c3) = c2.sign(bytes, f.v3) else {
-            return SignedTaken::Short;
-        };
-        let OffsetTaken::Value(o4, c4) = c3.sign(bytes, f.v4) else {
-            return SignedTaken::Short;
-        };
-        SignedTaken::Value(Signed { o1, o2, o3, o4 }, c4)
+        let (o1, c1) = self.sign(f.o1)?;
+        let (o2, c2) = c1.sign(f.o2)?;
+        let (o3, c3) = c2.sign(f.o3)?;
+        let (o4, c4) = c3.sign(f.o4)?;
+        Some((Four { o1, o2, o3, o4 }, c4))
     }
 
     // A band's magnitudes, signs and position.
-    fn band(self, bytes: &[u8], m: u32) -> ComponentTaken
-        requires within { Within bytes.now self }
-        requires m_bound { m < 32 }
-        ensures { Takes (OfType 1 m) (rest m) bytes.now self (component_taken result) }
+    fn band(self, m: Most) -> Taken<'a, Offsets>
+        ensures { Takes (OfType 1 m.value) (rest m.value) self.entry result }
     {
-        let MagnitudesTaken::Value(f, c1) = self.magnitudes(bytes, m) else {
-            return ComponentTaken::Short;
-        };
-        let SignedTaken::Value(s, c2) = c1.signs(bytes, f) else {
-            return ComponentTaken::Short;
-        };
-        let NumberTaken::Value(k, c3) = c2.fixed(bytes, 5) else {
-            return ComponentTaken::Short;
-        };
-        ComponentTaken::Value(
+        let (f, c1) = self.magnitudes(m)?;
+        let (offsets, c2) = c1.signs(f)?;
+        let (k, c3) = c2.fixed(5)?;
+        Some((
             Offsets::Band {
                 position: k as u8,
-                o1: s.o1,
-                o2: s.o2,
-                o3: s.o3,
-                o4: s.o4,
+                offsets,
             },
             c3,
-        )
+        ))
     }
 
     // An edge's magnitudes, whose signs are not coded: the first two offsets are not negative, the last two not positive.
-    fn edge_offsets(self, bytes: &[u8], m: u32) -> SignedTaken
-        requires within { Within bytes.now self }
-        requires m_bound { m < 32 }
-        ensures { Takes (EdgeOffsetsFit m) (edge_offsets_bins m) bytes.now self (signed_taken result) }
+    fn edge_offsets(self, m: Most) -> Taken<'a, Four<i8>>
+        ensures { Takes (EdgeOffsetsFit m.value) (magnitudes m.value) self.entry result }
     {
-        let MagnitudesTaken::Value(f, next) = self.magnitudes(bytes, m) else {
-            return SignedTaken::Short;
-        };
-        SignedTaken::Value(
-            Signed {
-                o1: offset(f.v1, false),
-                o2: offset(f.v2, false),
-                o3: offset(f.v3, true),
-                o4: offset(f.v4, true),
+        let (f, next) = self.magnitudes(m)?;
+        Some((
+            Four {
+                o1: offset(f.o1, false),
+                o2: offset(f.o2, false),
+                o3: offset(f.o3, true),
+                o4: offset(f.o4, true),
             },
             next,
-        )
+        ))
     }
 
     // An edge's magnitudes and class.
-    fn edge(self, bytes: &[u8], m: u32) -> ComponentTaken
-        requires within { Within bytes.now self }
-        requires m_bound { m < 32 }
-        ensures { Takes (OfType 2 m) (rest m) bytes.now self (component_taken result) }
+    fn edge(self, m: Most) -> Taken<'a, Offsets>
+        ensures { Takes (OfType 2 m.value) (rest m.value) self.entry result }
     {
-        let SignedTaken::Value(s, c1) = self.edge_offsets(bytes, m) else {
-            return ComponentTaken::Short;
-        };
-        let NumberTaken::Value(k, c2) = c1.fixed(bytes, 2) else {
-            return ComponentTaken::Short;
-        };
-        ComponentTaken::Value(
+        let (offsets, c1) = self.edge_offsets(m)?;
+        let (k, c2) = c1.fixed(2)?;
+        Some((
             Offsets::Edge {
                 class: k as u8,
-                o1: s.o1,
-                o2: s.o2,
-                o3: s.o3,
-                o4: s.o4,
+                offsets,
             },
             c2,
-        )
+        ))
     }
 
     // Luma or Cb: its type, and what follows.
-    fn component(self, bytes: &[u8], m: u32) -> ComponentTaken
-        requires within { Within bytes.now self }
-        requires m_bound { m < 32 }
-        ensures { Takes (Fits m) (λ c. type_bins c ++ rest m c) bytes.now self (component_taken result) }
+    fn component(self, m: Most) -> Taken<'a, Offsets>
+        ensures { Takes (Fits m.value) (λ c. type_bins c ++ rest m.value c) self.entry result }
     {
-        let NumberTaken::Value(t, next) = self.magnitude(bytes, 2) else {
-            return ComponentTaken::Short;
-        };
+        let (t, next) = self.magnitude(Most { value: 2 })?;
         if t == 0 {
-            return ComponentTaken::Value(Offsets::Off, next);
+            return Some((Offsets::Off, next));
         }
         if t == 1 {
-            return next.band(bytes, m);
+            return next.band(m);
         }
-        next.edge(bytes, m)
+        next.edge(m)
     }
 
     // An edge of a class that is known.
-    fn edge_of(self, bytes: &[u8], m: u32, class: u8) -> ComponentTaken
-        requires within { Within bytes.now self }
-        requires m_bound { (m < 32) × (class < 4) }
-        ensures { Takes (EdgeOf m class) (rest_of_cr m) bytes.now self (component_taken result) }
+    fn edge_of(self, m: Most, class: u8) -> Taken<'a, Offsets>
+        requires { class < 4 }
+        ensures { Takes (EdgeOf m.value class) (rest_of_cr m.value) self.entry result }
     {
-        let SignedTaken::Value(s, next) = self.edge_offsets(bytes, m) else {
-            return ComponentTaken::Short;
-        };
-        ComponentTaken::Value(
-            Offsets::Edge {
-                class,
-                o1: s.o1,
-                o2: s.o2,
-                o3: s.o3,
-                o4: s.o4,
-            },
-            next,
-        )
+        let (offsets, next) = self.edge_offsets(m)?;
+        Some((Offsets::Edge { class, offsets }, next))
     }
 
     // Cr, which takes Cb's type and class, and nothing else of it.
-    fn cr(self, bytes: &[u8], m: u32, cb: Offsets) -> ComponentTaken
-        requires within { Within bytes.now self }
-        requires m_bound { (m < 32) × ((n : ℕ) × Fits n cb) }
-        ensures { Takes (AfterCb m cb) (rest_of_cr m) bytes.now self (component_taken result) }
+    fn cr(self, m: Most, cb: Offsets) -> Taken<'a, Offsets>
+        requires { (n : ℕ) × Fits n cb }
+        ensures { Takes (AfterCb m.value cb) (rest_of_cr m.value) self.entry result }
     {
         match cb {
-            Offsets::Off => ComponentTaken::Value(Offsets::Off, self),
-            Offsets::Band { .. } => self.band(bytes, m),
-            Offsets::Edge { class, .. } => self.edge_of(bytes, m, class),
+            Offsets::Off => Some((Offsets::Off, self)),
+            Offsets::Band { .. } => self.band(m),
+            Offsets::Edge { class, .. } => self.edge_of(m, class),
         }
     }
 
     // Luma, which is off where its switch is.
-    fn luma(self, bytes: &[u8], on: bool, m: u32) -> ComponentTaken
-        requires within { Within bytes.now self }
-        requires m_bound { m < 32 }
-        ensures { Takes (LumaBySwitch on m) (luma_bins_by_switch on m) bytes.now self (component_taken result) }
+    fn luma(self, on: bool, m: Most) -> Taken<'a, Offsets>
+        ensures { Takes (LumaBySwitch on m.value) (luma_bins_by_switch on m.value) self.entry result }
     {
         if on {
-            self.component(bytes, m)
+            self.component(m)
         } else {
-            ComponentTaken::Value(Offsets::Off, self)
+            Some((Offsets::Off, self))
         }
     }
 
-    // Cb, and Cr after it.
-    fn cb_and_cr(self, bytes: &[u8], m: u32, n: u32) -> ChromaTaken
-        requires within { Within bytes.now self }
-        requires m_bound { (m < 32) × (n < 32) }
-        ensures { Takes (CbAndCrFit m n) (cb_and_cr_bins m n) bytes.now self (chroma_taken result) }
+    // Cb, and Cr after it, of the largest magnitudes m and n.
+    fn cb_and_cr(self, m: Most, n: Most) -> Taken<'a, (Offsets, Offsets)>
+        ensures { Takes (CbAndCrFit m.value n.value) (cb_and_cr_bins m.value n.value) self.entry result }
     {
-        let ComponentTaken::Value(cb, c1) = self.component(bytes, m) else {
-            return ChromaTaken::Short;
-        };
-        let ComponentTaken::Value(cr, c2) = c1.cr(bytes, n, cb) else {
-            return ChromaTaken::Short;
-        };
-        ChromaTaken::Value(cb, cr, c2)
+        let (cb, c1) = self.component(m)?;
+        let (cr, c2) = c1.cr(n, cb)?;
+        Some(((cb, cr), c2))
     }
 
     // Both chroma components, which are off where their switch is.
-    fn chroma(self, bytes: &[u8], on: bool, m: u32, n: u32) -> ChromaTaken
-        requires within { Within bytes.now self }
-        requires m_bound { (m < 32) × (n < 32) }
-        ensures { Takes (ChromaBySwitch on m n) (chroma_bins_by_switch on m n) bytes.now self (chroma_taken result) }
+    fn chroma(self, on: bool, m: Most, n: Most) -> Taken<'a, (Offsets, Offsets)>
+        ensures { Takes (ChromaBySwitch on m.value n.value) (chroma_bins_by_switch on m.value n.value) self.entry result }
     {
         if on {
-            self.cb_and_cr(bytes, m, n)
+            self.cb_and_cr(m, n)
         } else {
-            ChromaTaken::Value(Offsets::Off, Offsets::Off, self)
+            Some(((Offsets::Off, Offsets::Off), self))
         }
     }
 
     // The full form.
-    fn full(self, bytes: &[u8], s: Switches) -> SetTaken
-        requires { Within bytes.now self }
-        ensures { Takes (Valid s) (full s) bytes.now self (set_taken result) }
+    fn full(self, s: Switches) -> Taken<'a, CtuSet>
+        ensures { Takes (Valid s) (full s) self.entry result }
     {
-        let ComponentTaken::Value(luma, c1) = self.luma(bytes, s.luma, geometry::most_of(s, 0))
-        else {
-            return SetTaken::Short;
-        };
-        let ChromaTaken::Value(cb, cr, c2) = c1.chroma(
-            bytes,
-            s.chroma,
-            geometry::most_of(s, 1),
-            geometry::most_of(s, 2),
-        ) else {
-            return SetTaken::Short;
-        };
-        SetTaken::Value(CtuSet { luma, cb, cr }, c2)
+        let (luma, c1) = self.luma(s.luma, geometry::most_of(s, 0))?;
+        let ((cb, cr), c2) = c1.chroma(s.chroma, geometry::most_of(s, 1), geometry::most_of(s, 2))?;
+        Some((CtuSet { luma, cb, cr }, c2))
     }
 
     // Whether the merge with a neighbour is taken: no bin says so where it is not there.
-    fn merge(self, bytes: &[u8], there: bool) -> FlagTaken
-        requires { Within bytes.now self }
-        ensures { Takes (MergeFits there) (merge_bins there) bytes.now self (flag_taken result) }
+    fn merge(self, there: bool) -> Taken<'a, bool>
+        ensures { Takes (MergeFits there) (merge_bins there) self.entry result }
     {
         if there {
-            self.flag(bytes)
+            self.flag()
         } else {
-            FlagTaken::Value(false, self)
+            Some((false, self))
         }
     }
 
     // Merge left, else merge up, else the full form.
-    fn form(self, bytes: &[u8], s: Switches, has_left: bool, has_up: bool) -> FormTaken
-        requires { Within bytes.now self }
-        ensures { Takes (FormFits s has_left has_up) (bins_of_form s has_left has_up) bytes.now self (form_taken result) }
+    fn form(self, s: Switches, has_left: bool, has_up: bool) -> Taken<'a, Form>
+        ensures { Takes (FormFits s has_left has_up) (bins_of_form s has_left has_up) self.entry result }
     {
-        let FlagTaken::Value(left, c1) = self.merge(bytes, has_left) else {
-            return FormTaken::Short;
-        };
+        let (left, c1) = self.merge(has_left)?;
         if left {
-            return FormTaken::Value(Form::Left, c1);
+            return Some((Form::Left, c1));
         }
-        let FlagTaken::Value(up, c2) = c1.merge(bytes, has_up) else {
-            return FormTaken::Short;
-        };
+        let (up, c2) = c1.merge(has_up)?;
         if up {
-            return FormTaken::Value(Form::Up, c2);
+            return Some((Form::Up, c2));
         }
-        let SetTaken::Value(q, c3) = c2.full(bytes, s) else {
-            return FormTaken::Short;
-        };
-        FormTaken::Value(Form::Full(q), c3)
+        let (q, c3) = c2.full(s)?;
+        Some((Form::Full(q), c3))
     }
-}
 
-// The form of the bins of a CTU that has some.
-fn coded_form(s: Switches, has_left: bool, has_up: bool, bytes: &[u8], count: usize) -> Form
-    requires count_bound { count ≤ 8 * length bytes.now }
-    requires s_value { any_on s ≡ true }
-    ensures { ReadAs s has_left has_up (bins_of bytes.now count) result }
-{
-    let start = Cursor { at: 0, count };
-    let FormTaken::Value(form, end) = start.form(bytes, s, has_left, has_up) else {
-        return Form::TooEarly;
-    };
-    if end.at < count {
-        return Form::BinsRemain;
+    // The form of the bins from here on, of a CTU that has some.
+    fn coded_form(self, s: Switches, has_left: bool, has_up: bool) -> Result<Form, BinsError>
+        requires { any_on s ≡ true }
+        ensures { ReadAs s has_left has_up (bins_at self.entry) result }
+    {
+        let (form, end) = self.form(s, has_left, has_up).ok_or(BinsError::TooEarly)?;
+        if end.at < end.count {
+            return Err(BinsError::BinsRemain);
+        }
+        Ok(form)
     }
-    form
 }
 
 // The form of a CTU's bins, of a count that the caller has held to the bytes. With both switches off a CTU has none, and is off.
-pub fn read_form(s: Switches, has_left: bool, has_up: bool, bytes: &[u8], count: usize) -> Form
+pub fn read_form(
+    s: Switches,
+    has_left: bool,
+    has_up: bool,
+    bytes: &[u8],
+    count: usize,
+) -> Result<Form, BinsError>
     requires { count ≤ 8 * length bytes.now }
     ensures { ReadAs s has_left has_up (bins_of bytes.now count) result }
 {
     if geometry::any_on(s) {
-        return coded_form(s, has_left, has_up, bytes, count);
+        let start = Cursor {
+            bytes,
+            at: 0,
+            count,
+        };
+        return start.coded_form(s, has_left, has_up);
     }
     if count > 0 {
-        return Form::BinsRemain;
+        return Err(BinsError::BinsRemain);
     }
-    Form::Full(CtuSet {
+    Ok(Form::Full(CtuSet {
         luma: Offsets::Off,
         cb: Offsets::Off,
         cr: Offsets::Off,
-    })
+    }))
 }

@@ -12,7 +12,7 @@ pub struct Divisors {
 }
 
 // The one place where the chroma formats differ.
-#[tactic(auto, unfolding(standard::specs::Picture::divisors))]
+#[tactic(auto, using(standard::proofs::Divisors::of_luma_lem, standard::proofs::Divisors::of_420, standard::proofs::Divisors::of_422, standard::proofs::Divisors::of_444))]
 pub fn divisors_of(format: u8, component: u8) -> Divisors
     ensures across { result.across ≡ (divisors format component).0 }
     ensures down { result.down ≡ (divisors format component).1 }

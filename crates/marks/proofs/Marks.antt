@@ -1,16 +1,9 @@
 -- Marks outside 0 to 2, outside 1 to 2, and other than 2, said as the reasons say it.
--- Then marks scanned part by part, and how far a scan comes.
-use mathlib.Core.Logic.{inl, inr, ⊎_elim}
-use mathlib.Core.List.{List}
-use mathlib.Core.Path.{◌≡◌, subst}
-use Prim.Native.Nat.{ℕ, ◌+◌, ◌-◌, ◌≤◌, ◌<◌}
+-- Then marks scanned part by part, how far a scan comes, and the chunks of one.
+use Rattle.std.proofs.Common.{◌≡◌, ℕ, ◌+◌, ◌-◌, ◌*◌, ◌/◌, ◌%◌, ◌<◌, ◌≤◌, List, [], ◌∷◌, ◌++◌, length, get_or, take, drop, arith, Bool, true, false, ◌||◌, subst, refl, length-drop, get_or-drop, get_or-take, length-take, inl, inr, ⊎_elim, Option, Some, None, IfSome, option_map}
+use Rattle.std.proofs.lemmas.List.{length_push, get_or_push, get_or_append_left}
 use native.Mathlib.Decide.{dec_lt}
-use native.Mathlib.Omega.{arith}
-use borrow.Author.Tests.{ltb-true, ltb-false}
-use lib.Dec.{ltb}
-use lib.ListN.{get_or}
 use Rattle.standard.specs.Refusals.{Tells}
-use Rattle.standard.proofs.Answers.{tell}
 use Rattle.marks.specs.Marks.{Outside, SomeOutside, LeadingInside}
 
 -- outside 0 to 2
@@ -41,58 +34,77 @@ is_two {m} n = of (dec_lt m 2) (dec_lt 2 m)
 
 -- ---- part by part
 
+pub none_of_none : (low high : ℕ) → ¬ SomeOutside low high []
+none_of_none low high s = absurd (omega (arith, s.1))
+
 module _ (low high : ℕ) (marks : List ℕ) where
-  here : {m n : ℕ} → m ≡ n → Outside low high (get_or marks m 0) → Outside low high (get_or marks n 0)
-  here e = subst (λ (i : ℕ). Outside low high (get_or marks i 0)) e
-
-  -- the first m, and the n behind them
-  pub in_first : (from m n : ℕ) → SomeOutside low high marks from m → SomeOutside low high marks from (m + n)
-  in_first from m n s = (s.0, omega (arith, s.1), s.2)
-
-  pub in_next : (from m n : ℕ) → SomeOutside low high marks (from + m) n → SomeOutside low high marks from (m + n)
-  in_next from m n s = (m + s.0, omega (arith, s.1), here (omega arith) s.2)
-
-  pub not_next : (from m n : ℕ) → ¬ SomeOutside low high marks (from + m) n → SomeOutside low high marks from (m + n) → SomeOutside low high marks from m
-  not_next from m n none s = of (dec_lt s.0 m)
+  -- one mark more
+  pub one_more : (m : ℕ) (some now : Bool) → Tells (SomeOutside low high marks) some → Tells (Outside low high m) now
+      → Tells (SomeOutside low high (marks ++ (m ∷ []))) (some || now)
+  one_more m true now t u = (t.0, omega (arith, t.1, length_push marks m), rw (get_or_append_left marks (m ∷ []) 0 t.0 t.1) t.2)
+  one_more m false true t u = (length marks, omega (arith, length_push marks m), rw (get_or_push marks m 0 (length marks) refl) u)
+  one_more m false false t u = λ s. of s (dec_lt s.0 (length marks))
     where
-      of : Dec (s.0 < m) → SomeOutside low high marks from m
+      of : (s : SomeOutside low high (marks ++ (m ∷ []))) → Dec (s.0 < length marks) → ⊥
+      of s (yes l) = t (s.0, l, rw (← get_or_append_left marks (m ∷ []) 0 s.0 l) s.2)
+      of s (no l) = let e : length marks ≡ s.0 = omega (arith, s.1, length_push marks m) in u (rw (← get_or_push marks m 0 s.0 e) s.2)
+
+  -- those behind the first k
+  pub in_next : (k : ℕ) → SomeOutside low high (drop k marks) → SomeOutside low high marks
+  in_next k s = (k + s.0, omega (arith, s.1, length-drop k marks), rw (← get_or-drop k marks s.0 0) s.2)
+
+  pub not_next : (k : ℕ) → ¬ SomeOutside low high (drop k marks) → SomeOutside low high marks → (j : ℕ) × (j < k) × Outside low high (get_or marks j 0)
+  not_next k none s = of (dec_lt s.0 k)
+    where
+      of : Dec (s.0 < k) → (j : ℕ) × (j < k) × Outside low high (get_or marks j 0)
       of (yes l) = (s.0, l, s.2)
-      of (no l) = absurd (none (s.0 - m, omega (arith, s.1), here (omega arith) s.2))
-
-  -- one mark
-  pub in_one : (from : ℕ) → Outside low high (get_or marks from 0) → SomeOutside low high marks from 1
-  in_one from o = (0, omega arith, here (omega arith) o)
-
-  pub not_in_one : (from : ℕ) → ¬ Outside low high (get_or marks from 0) → ¬ SomeOutside low high marks from 1
-  not_in_one from n s = n (here (omega (arith, s.1)) s.2)
+      of (no l) =
+          let e : k + (s.0 - k) ≡ s.0 = omega arith in
+          absurd (none (s.0 - k, omega (arith, s.1, length-drop k marks), rw (get_or-drop k marks (s.0 - k) 0) (rw e s.2)))
 
 -- ---- how far a scan comes
 
-pub leading_few : {low high : ℕ} {marks : List ℕ} {from n k : ℕ} → LeadingInside low high marks from n k → k ≤ n
+pub leading_few : {low high : ℕ} {marks : List ℕ} {k : ℕ} → LeadingInside low high marks k → k ≤ length marks
 leading_few f = ⊎_elim (λ e. omega arith) (λ u. omega (arith, u.0)) f.ends
 
--- no further than another does
-no_further : (low high : ℕ) (marks : List ℕ) (from n : ℕ) {k m : ℕ} → LeadingInside low high marks from n k → LeadingInside low high marks from n m → ¬ (k < m)
-no_further low high marks from n {k} {m} a b l = ⊎_elim (λ e. let few = leading_few b in omega arith) (λ u. b.inside (k, l, u.1)) a.ends
+module _ (low high : ℕ) (marks : List ℕ) where
+  -- no further than another does
+  no_further : {k m : ℕ} → LeadingInside low high marks k → LeadingInside low high marks m → ¬ (k < m)
+  no_further {k} {m} a b l = ⊎_elim (λ e. let few = leading_few b in omega arith) (λ u. b.inside k l u.1) a.ends
 
-pub one_leading : (low high : ℕ) (marks : List ℕ) (from n : ℕ) {k m : ℕ} → LeadingInside low high marks from n k → LeadingInside low high marks from n m → k ≡ m
-one_leading low high marks from n {k} {m} a b = of (dec_lt k m) (dec_lt m k)
-  where
-    of : Dec (k < m) → Dec (m < k) → k ≡ m
-    of (yes l) d = absurd (no_further low high marks from n a b l)
-    of (no i) (yes l) = absurd (no_further low high marks from n b a l)
-    of (no i) (no j) = omega arith
+  pub one_leading : {k m : ℕ} → LeadingInside low high marks k → LeadingInside low high marks m → k ≡ m
+  one_leading {k} {m} a b = of (dec_lt k m) (dec_lt m k)
+    where
+      of : Dec (k < m) → Dec (m < k) → k ≡ m
+      of (yes l) d = absurd (no_further a b l)
+      of (no i) (yes l) = absurd (no_further b a l)
+      of (no i) (no j) = omega arith
 
--- one is outside where it does not come to the end
-pub stops_short : (low high : ℕ) (marks : List ℕ) (from n k : ℕ) → LeadingInside low high marks from n k → Tells (SomeOutside low high marks from n) (ltb k n)
-stops_short low high marks from n k f =
-    tell (ltb k n) (λ e. ⊎_elim (λ q. absurd (omega (arith, ltb-true k n e))) (λ u. (k, u.0, u.1)) f.ends)
-    (λ e s. f.inside (s.0, omega (arith, ltb-false k n e, s.1), s.2))
+  -- behind k marks of which none is outside
+  pub leading_next : (k n : ℕ) → k ≤ length marks → ((j : ℕ) → j < k → ¬ Outside low high (get_or marks j 0))
+      → LeadingInside low high (drop k marks) n → LeadingInside low high marks (k + n)
+  leading_next k n h none f = record {
+    inside = λ j l. of j l (dec_lt j k);
+    ends = ⊎_elim (λ e. inl (omega (arith, e, length-drop k marks))) (λ u. inr (omega (arith, u.0, length-drop k marks), rw (← get_or-drop k marks n 0) u.1)) f.ends;
+  }
+    where
+      of : (j : ℕ) → j < k + n → Dec (j < k) → ¬ Outside low high (get_or marks j 0)
+      of j l (yes i) = none j i
+      of j l (no i) = let e : k + (j - k) ≡ j = omega arith in λ o. f.inside (j - k) (omega arith) (rw (get_or-drop k marks (j - k) 0) (rw e o))
 
--- behind m marks of which none is outside
-pub leading_next : (low high : ℕ) (marks : List ℕ) (from n : ℕ) {m k : ℕ} → m ≤ n → ¬ SomeOutside low high marks from m
-    → LeadingInside low high marks (from + m) (n - m) k → LeadingInside low high marks from n (m + k)
-leading_next low high marks from n {m} {k} l none f = record {
-  inside = λ s. none (not_next low high marks from m k f.inside s);
-  ends = ⊎_elim (λ e. inl (omega arith)) (λ u. inr (omega (arith, u.0), here low high marks (omega arith) u.1)) f.ends;
-}
+  -- chunks of which none has a mark outside
+  pub inside_chunks : (n : ℕ) → n * 64 ≤ length marks → ((k : ℕ) → k < n → ¬ SomeOutside low high (take 64 (drop (k * 64) marks)))
+      → (j : ℕ) → j < n * 64 → ¬ Outside low high (get_or marks j 0)
+  inside_chunks n h none j l o =
+      let k = j / 64 in
+      let i = j % 64 in
+      let e : k * 64 + i ≡ j = omega arith in
+      let small : i < 64 = omega arith in
+      none k (omega arith) (i, simp (length-take, length-drop) (omega arith), simp (get_or-take, get_or-drop) (rw e o))
+
+-- what two runs say of an item that they share
+pub same_item : {A : Type 0} {P Q : A → Type 0} (o o' : Option A) {x : A} → option_map (λ y. y) o ≡ Some x → o' ≡ o → IfSome o P → IfSome o' Q
+    → ((y : A) → P y → Q y → ⊥) → ⊥
+same_item {Q = Q} (Some y) (Some z) e f p q k = let g : z ≡ y = cc in k y p (subst Q g q)
+same_item (Some y) None e f p q k = absurd cc
+same_item None o' e f p q k = absurd cc

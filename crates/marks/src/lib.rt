@@ -1,7 +1,7 @@
 // The marks of CTBs: that of one, and scans of several.
 #![tactic(auto)]
 
-ghost use Rattle.std.specs.Prelude.{◌≡◌, ◌+◌, ◌≤◌, ◌<◌, length};
+ghost use Rattle.std.specs.Prelude.{◌≡◌, ◌+◌, ◌≤◌, ◌<◌, ℕ, length, slice_index};
 ghost use Rattle.standard.specs.Picture.{Rules, components, ctu_count};
 ghost use Rattle.standard.specs.Refusals.{Tells};
 ghost use Rattle.standard.specs.Reasons.{MarksFit, mark_of};
@@ -18,82 +18,69 @@ pub fn mark_of(p: Picture, component: u8, ctb: u32, marks: &[u8]) -> u8
     marks[i]
 }
 
-fn is_outside(mark: u8, low: u8, high: u8) -> bool
-    ensures { Tells (Outside low high mark) result }
-{
-    if mark < low {
-        return true;
+// The marks that a scan passes over: those from low to high.
+#[derive(Clone, Copy)]
+pub struct Allowed {
+    pub low: u8,
+    pub high: u8,
+}
+
+impl Allowed {
+    // Whether a mark is outside.
+    pub fn bars(self, mark: u8) -> bool
+        ensures { Tells (Outside self.low self.high mark) result }
+    {
+        mark < self.low || self.high < mark
     }
-    high < mark
 }
 
 // ---- of a few marks, one by one
 
-// How many of the n marks from a place on stand before the first that is below low or above high.
-fn leading_inside(marks: &[u8], from: usize, n: usize, low: u8, high: u8) -> usize
-    requires { from + n ≤ length marks.now }
-    ensures { LeadingInside low high marks.now from n result }
+// How many stand before the first that is outside.
+fn leading_inside(marks: &[u8], allowed: Allowed) -> usize
+    ensures { LeadingInside allowed.low allowed.high marks.now result }
 {
-    let mut k: usize = 0;
-    while k < n {
-        if is_outside(marks[from + k], low, high) {
-            return k;
-        }
-        k += 1;
-    }
-    k
+    marks
+        .iter()
+        .position(|m| allowed.bars(*m))
+        .unwrap_or(marks.len())
 }
 
-// Whether one of the n marks from a place on is outside.
-pub fn some_outside(marks: &[u8], from: usize, n: usize, low: u8, high: u8) -> bool
-    requires { from + n ≤ length marks.now }
-    ensures { Tells (SomeOutside low high marks.now from n) result }
+// Whether one is outside.
+pub fn some_outside(marks: &[u8], allowed: Allowed) -> bool
+    ensures { Tells (SomeOutside allowed.low allowed.high marks.now) result }
 {
-    leading_inside(marks, from, n, low, high) < n
+    marks.iter().any(|m| allowed.bars(*m))
 }
 
 // ---- of many, by vector code
 
-// Whether one of them is outside. The loop has no exit: with one, it would not become vector code.
-pub fn some_of_many(marks: &[u8], from: usize, n: usize, low: u8, high: u8) -> bool
-    requires { from + n ≤ length marks.now }
-    ensures { Tells (SomeOutside low high marks.now from n) result }
+// Whether one of them is outside. The fold has no exit: with one, it would not become vector code.
+pub fn some_of_many(marks: &[u8], allowed: Allowed) -> bool
+    ensures { Tells (SomeOutside allowed.low allowed.high marks.now) result }
 {
-    let mut some = false;
-    let mut j: usize = 0;
-    while j < n {
-        if is_outside(marks[from + j], low, high) {
-            some = true;
-        }
-        j += 1;
-    }
-    some
+    marks.iter().fold(false, |some, m| some | allowed.bars(*m))
 }
 
 // Marks that are looked at together: fewer, and their loop is unrolled and becomes worse code.
 const CHUNK: usize = 64;
 
 // How many stand in the chunks before the first chunk that has one outside.
-fn leading_chunks(marks: &[u8], from: usize, n: usize, low: u8, high: u8) -> usize
-    requires { from + n ≤ length marks.now }
-    ensures { (result ≤ n) × (¬ SomeOutside low high marks.now from result) }
+fn leading_chunks(marks: &[u8], allowed: Allowed) -> usize
+    ensures within { result ≤ length marks.now }
+    ensures inside { (j : ℕ) → j < result → ¬ Outside allowed.low allowed.high (slice_index marks.now j) }
 {
-    let mut k: usize = 0;
-    while CHUNK <= n - k {
-        let at = from + k;
-        if some_of_many(marks, at, CHUNK, low, high) {
-            return k;
-        }
-        k += CHUNK;
-    }
-    k
+    let passed = marks
+        .chunks_exact(CHUNK)
+        .take_while(|chunk| !some_of_many(chunk, allowed))
+        .count();
+    passed * CHUNK
 }
 
 // How many stand before the first that is outside: in its chunk they are looked at again, one by one.
-pub fn leading_of_many(marks: &[u8], from: usize, n: usize, low: u8, high: u8) -> usize
-    requires { from + n ≤ length marks.now }
-    ensures { LeadingInside low high marks.now from n result }
+pub fn leading_of_many(marks: &[u8], allowed: Allowed) -> usize
+    ensures { LeadingInside allowed.low allowed.high marks.now result }
 {
-    let k = leading_chunks(marks, from, n, low, high);
-    k + leading_inside(marks, from + k, n - k, low, high)
+    let k = leading_chunks(marks, allowed);
+    k + leading_inside(&marks[k..], allowed)
 }

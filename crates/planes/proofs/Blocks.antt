@@ -1,14 +1,14 @@
--- The algebra of `Written` over rectangles, point by point: nothing written, one rectangle after another, a row or some columns more,
+-- The algebra of `Written` over rectangles, point by point: one rectangle after another, some rows or some columns more,
 -- another name for the same samples, a lent part of a row.
-use mathlib.Core.Path.{◌≡◌, refl, sym, ap, ap₂, ◌∙◌}
-use mathlib.Core.List.{List, [], ◌∷◌, ◌++◌}
+use mathlib.Core.Path.{◌≡◌, sym, ap, ap₂, ◌∙◌}
+use mathlib.Core.List.{List, ◌++◌}
 use mathlib.Core.Logic.{◌⊎◌, inl, inr, ⊎_elim}
-use Prim.Native.Nat.{ℕ, zero, suc, ◌+◌, ◌-◌, ◌*◌, ◌≤◌, ◌<◌}
-use native.Mathlib.Nat.{not-suc-le-zero, le_of_suc-le-suc}
+use Prim.Native.Nat.{ℕ, ◌+◌, ◌-◌, ◌*◌, ◌≤◌, ◌<◌}
 use native.Mathlib.Decide.{dec_lt}
 use native.Mathlib.Omega.{arith}
 use lib.ListN.{length, get_or, take, drop, length-drop}
-use lib.Seq.{length-take-le, get_or-append-add, get_or-take, get_or-drop}
+use lib.Seq.{length-take-le, get_or-take, get_or-drop}
+use Rattle.std.proofs.lemmas.List.{get_or_append_left, get_or-append_right}
 use borrow.Rule.Slice.PartMut.{mid_of, post_of, put_mid, same_len_mid}
 use Rattle.standard.specs.declared.Rectangle.{Rectangle}
 use Rattle.standard.specs.Picture.{Inside}
@@ -18,18 +18,6 @@ use Rattle.standard.proofs.Rasters.{index_lt, same_place, inside?}
 use Rattle.planes.specs.Places.{block, row, Filled}
 
 module _ {w h : ℕ} {f : ℕ → ℕ → ℕ} where
-  -- ---- nothing written
-
-  pub none_written : {r : Rectangle} {o : List ℕ} → ((x y : ℕ) → ¬ Inside r x y) → Written w h r f o o
-  none_written n = record {
-    long = refl;
-    inside = λ x y p q k. absurd (n x y k);
-    outside = λ x y p q k. refl;
-  }
-
-  pub no_rows : {x0 x1 y : ℕ} {o : List ℕ} → Written w h (block x0 x1 y y) f o o
-  no_rows = none_written (λ x y k. omega arith)
-
   -- ---- other names
 
   pub same_samples : {g : ℕ → ℕ → ℕ} {r : Rectangle} {o o' : List ℕ} → ((x y : ℕ) → x < w → y < h → Inside r x y → f x y ≡ g x y) → Written w h r f o o' → Written w h r g o o'
@@ -63,11 +51,6 @@ module _ {w h : ℕ} {f : ℕ → ℕ → ℕ} where
       go x y k (yes l) = inl (omega arith)
       go x y k (no n) = inr (omega arith)
 
-  -- rows y0 to y and then row y
-  pub one_more : (x0 x1 y0 y : ℕ) {o o' o'' : List ℕ} → y0 ≤ y
-      → Written w h (block x0 x1 y0 y) f o o' → Written w h (row x0 x1 y) f o' o'' → Written w h (block x0 x1 y0 (y + 1)) f o o''
-  one_more x0 x1 y0 y a = rows_then x0 x1 y0 y (y + 1) a (omega arith)
-
   -- columns x0 to x1 and then x1 to x2
   pub columns_then : (x0 x1 x2 y0 y1 : ℕ) {o o' o'' : List ℕ} → x0 ≤ x1 → x1 ≤ x2
       → Written w h (block x0 x1 y0 y1) f o o' → Written w h (block x1 x2 y0 y1) f o' o'' → Written w h (block x0 x2 y0 y1) f o o''
@@ -78,14 +61,6 @@ module _ {w h : ℕ} {f : ℕ → ℕ → ℕ} where
       go x y k (no n) = inr (omega arith)
 
 -- ---- a part of a row, lent and written, is a rectangle of one row written
-
-left_of_lem : (xs ys : List ℕ) (i : ℕ) → i < length xs → get_or (xs ++ ys) i 0 ≡ get_or xs i 0
-left_of_lem [] ys i h = absurd (not-suc-le-zero h)
-left_of_lem (x ∷ xs) ys zero h = refl
-left_of_lem (x ∷ xs) ys (suc i) h = left_of_lem xs ys i (le_of_suc-le-suc h)
-
-right_of : (xs ys : List ℕ) (n i j : ℕ) → length xs ≡ n → i ≡ n + j → get_or (xs ++ ys) i 0 ≡ get_or ys j 0
-right_of xs ys n i j e f = ap (λ (m : ℕ). get_or (xs ++ ys) m 0) (f ∙ ap (λ (m : ℕ). m + j) (sym e)) ∙ get_or-append-add xs ys j 0
 
 -- sample j of the k samples from a on
 pub mid_get : (a k j : ℕ) (xs : List ℕ) → j < k → get_or (mid_of a k xs) j 0 ≡ get_or xs (a + j) 0
@@ -99,17 +74,23 @@ module _ (a k : ℕ) (xs ys : List ℕ) (fit : a + k ≤ length xs) (long : leng
   front = length-take-le a xs (omega arith)
 
   put_before : (i : ℕ) → i < a → get_or (put_mid a k xs ys) i 0 ≡ get_or xs i 0
-  put_before i h = left_of_lem (take a xs) (ys ++ post_of a k xs) i (omega (arith, front)) ∙ get_or-take a xs i 0 h
+  put_before i h = get_or_append_left (take a xs) (ys ++ post_of a k xs) 0 i (omega (arith, front)) ∙ get_or-take a xs i 0 h
 
   put_in : (i j : ℕ) → i ≡ a + j → j < k → get_or (put_mid a k xs ys) i 0 ≡ get_or ys j 0
-  put_in i j e h = right_of (take a xs) (ys ++ post_of a k xs) a i j front e ∙ left_of_lem ys (post_of a k xs) j (omega arith)
+  put_in i j e h =
+      let f : i - a ≡ j = omega arith in
+      get_or-append_right (take a xs) (ys ++ post_of a k xs) a i 0 front (omega arith)
+      ∙ ap (λ (n : ℕ). get_or (ys ++ post_of a k xs) n 0) f
+      ∙ get_or_append_left ys (post_of a k xs) 0 j (omega arith)
 
   put_after : (i : ℕ) → a + k ≤ i → get_or (put_mid a k xs ys) i 0 ≡ get_or xs i 0
   put_after i h =
-      let e : a + (k + (i - (a + k))) ≡ i = omega arith in
-      right_of (take a xs) (ys ++ post_of a k xs) a i (i - a) front (omega arith)
-      ∙ right_of ys (post_of a k xs) k (i - a) (i - (a + k)) long (omega arith)
-      ∙ get_or-drop k (drop a xs) (i - (a + k)) 0 ∙ get_or-drop a xs (k + (i - (a + k))) 0 ∙ ap (λ (n : ℕ). get_or xs n 0) e
+      let e : a + (k + (i - a - k)) ≡ i = omega arith in
+      get_or-append_right (take a xs) (ys ++ post_of a k xs) a i 0 front (omega arith)
+      ∙ get_or-append_right ys (post_of a k xs) k (i - a) 0 long (omega arith)
+      ∙ get_or-drop k (drop a xs) (i - a - k) 0
+      ∙ get_or-drop a xs (k + (i - a - k)) 0
+      ∙ ap (λ (n : ℕ). get_or xs n 0) e
 
 -- the part from i on, k samples long, of columns x0 to x1 of row y
 module _ (w h x0 x1 y i k : ℕ) (le : x0 < x1) (ri : x1 ≤ w) (yh : y < h) (ei : i ≡ y * w + x0) (ek : k ≡ x1 - x0) where

@@ -1,8 +1,7 @@
--- Planes within the rules are small enough for an index; a place has one index; some rows of a plane fit it.
+-- Planes within the rules are small enough for an index; a place has one index.
 use mathlib.Core.Path.{◌≡◌, sym, ◌∙◌}
 use Prim.Native.Nat.{ℕ, ◌*◌, ◌^◌, ◌≤◌}
-use native.Mathlib.Nat.{mul_comm, mul-le-mul, mul-le-mul_right}
-use native.Mathlib.Omega.{arith}
+use native.Mathlib.Nat.{mul-le-mul}
 use Rattle.planes.specs.Places.{Indexed}
 
 -- a plane of at most 8192 by 8192 has at most 2 ^ 26 samples
@@ -12,7 +11,3 @@ area w h p q = mul-le-mul p q
 -- a place has one index
 pub one_index : {w h x y i j : ℕ} → Indexed w h x y i → Indexed w h x y j → i ≡ j
 one_index p q = p.place ∙ sym q.place
-
--- some of the rows
-pub rows_fit : (w h n : ℕ) → n ≤ h → n * w ≤ w * h
-rows_fit w h n p = omega (arith, mul-le-mul_right w p, mul_comm w h)

@@ -15,7 +15,7 @@ use mir.Val.{SFits}
 use mir.Facts.{to_z-of_z}
 use Rattle.standard.specs.Samples.{edge_idx}
 use Rattle.standard.proofs.Tables.{category, category_is_edge_idx}
-use Rattle.rows.specs.declared.Scaled.{Scaled}
+use Rattle.standard.specs.declared.Four.{Four}
 use Rattle.rows.specs.Moves.{value_of}
 use Rattle.rows.specs.Sample.{Only, Within}
 use Rattle.rows.proofs.Widths.{back}
@@ -100,7 +100,7 @@ mag_differ f e = f (ap mag e)
 sign_differ : {m k : ℕ} → pos m ≡ negsuc k → ⊥
 sign_differ e = subst (λ (z : ℤ). T (non_neg z)) e tt
 
-module _ (o : Scaled) {a b c d : ℤ} (f1 : SFits w16 o.o1) (f2 : SFits w16 o.o2) (f3 : SFits w16 o.o3) (f4 : SFits w16 o.o4) where
+module _ (o : Four ℤ) {a b c d : ℤ} (f1 : SFits w16 o.o1) (f2 : SFits w16 o.o2) (f3 : SFits w16 o.o3) (f4 : SFits w16 o.o4) where
   category_sole : (n : ℤ) → Only n (negsuc 1) o.o1 a → Only n (negsuc 0) o.o2 b → Only n (pos 1) o.o3 c → Only n (pos 2) o.o4 d
       → Sole (value_of o (category n)) a b c d
   category_sole (pos zero) p q r s =

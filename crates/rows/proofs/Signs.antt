@@ -1,13 +1,18 @@
 -- The sign of a difference of two naturals, and the sum of two signs at 16 bits.
-use mathlib.Core.Path.{◌≡◌, refl, ap₂, ◌∙◌}
+use mathlib.Core.Path.{◌≡◌, refl, sym, ap, ap₂, ◌∙◌}
 use Prim.Native.Nat.{ℕ, zero, suc, ◌-◌, ◌≤◌, ◌<◌}
 use native.Mathlib.Nat.{not-suc-le-zero, le_refl, sub_self, add-zero}
 use native.Mathlib.Omega.{arith}
-use borrow.Author.Tests.{lt-ltb, le-ltb}
+use native.Mathlib.Decide.{dec_lt}
+use borrow.Author.Tests.{lt-ltb, le-ltb, eq-eqb, ne_eqb}
+use denote.Enum.Declared.{tag_of}
 use lib.Dec.{lit<}
 use lib.IntN.{ℤ, pos, negsuc, ◌+ℤ◌, ◌-ℤ◌}
 use mir.Syntax.{w16}
-use mir.Val.{SFits}
+use mir.Val.{SFits, to_z, of_z}
+use Rattle.std.specs.declared.cmp.Ordering.{Ordering}
+use Rattle.std.specs.Ordering.{nat_cmp}
+use Rattle.std.specs.contracts.cmp.Ordering.{the_type}
 use Rattle.standard.specs.Samples.{sign}
 use Rattle.rows.proofs.Widths.{back}
 
@@ -57,3 +62,22 @@ sum_is (negsuc m) (negsuc n) = refl
 
 pub sum_of : (x y : ℤ) {S T : ℤ} → S ≡ sign x → T ≡ sign y → pos 2 +ℤ back (back S +ℤ back T) ≡ pos 2 +ℤ sign x +ℤ sign y
 sum_of x y p q = ap₂ (λ (s t : ℤ). pos 2 +ℤ back (back s +ℤ back t)) p q ∙ sum_is x y
+
+-- ---- an ordering as a number
+
+abbrev number : Ordering → ℤ
+number o = to_z w16 (of_z w16 (to_z w16 (tag_of the_type o) +ℤ negsuc 0))
+
+pub sign_compare : (s a : ℕ) {o : Ordering} → o ≡ nat_cmp s a → number o ≡ sign (pos s -ℤ pos a)
+sign_compare s a e = ap number e ∙ go (dec_lt s a) (dec_lt a s)
+  where
+    go : Dec (s < a) → Dec (a < s) → number (nat_cmp s a) ≡ sign (pos s -ℤ pos a)
+    go (yes h) k = simp (lt-ltb s a h) (sym (sign_lt s a h))
+    go (no h) (yes k) =
+        let n : a ≤ s = omega arith in
+        let m : s ≡ a → ⊥ = omega arith in
+        simp (le-ltb s a n, ne_eqb s a m) (sym (sign_gt s a k))
+    go (no h) (no k) =
+        let e : s ≡ a = omega arith in
+        let n : a ≤ s = omega arith in
+        simp (le-ltb s a n, eq-eqb s a e) (sym (ap (λ (n : ℕ). sign (pos n -ℤ pos a)) e ∙ sign_eq a))

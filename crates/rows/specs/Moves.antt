@@ -1,23 +1,23 @@
 -- What the rows compute with: the offsets of a block, scaled, and the greatest sample.
 -- The law `moved_is` of proofs/Moved says that this is the standard's clipped sum.
 use Rattle.std.specs.Prelude.{[], ◌∷◌, ℕ, ◌-◌, ◌^◌, min, ℤ, pos, negsuc, ◌+ℤ◌, ◌*ℤ◌, get_or}
-use Rattle.rows.specs.declared.Scaled.{Scaled}
+use Rattle.standard.specs.declared.Four.{Four}
 use Rattle.rows.specs.declared.Moves.{Moves}
 
 -- offsets as coded, multiplied by 2^shift
-unfoldable pub scaled_by : ℕ → ℤ → ℤ → ℤ → ℤ → Scaled
-scaled_by shift o1 o2 o3 o4 = record {
-  o1 = o1 *ℤ pos (2 ^ shift);
-  o2 = o2 *ℤ pos (2 ^ shift);
-  o3 = o3 *ℤ pos (2 ^ shift);
-  o4 = o4 *ℤ pos (2 ^ shift);
+unfoldable pub scaled_by : ℕ → Four ℤ → Four ℤ
+scaled_by shift o = record {
+  o1 = o.o1 *ℤ pos (2 ^ shift);
+  o2 = o.o2 *ℤ pos (2 ^ shift);
+  o3 = o.o3 *ℤ pos (2 ^ shift);
+  o4 = o.o4 *ℤ pos (2 ^ shift);
 }
 
-unfoldable pub moves_of : ℕ → Scaled → Moves
+unfoldable pub moves_of : ℕ → Four ℤ → Moves
 moves_of depth o = record { by = o; top = 2 ^ depth - 1 }
 
 -- of four offsets, that of index n: 0 has none
-abbrev pub value_of : Scaled → ℕ → ℤ
+abbrev pub value_of : Four ℤ → ℕ → ℤ
 value_of o n = get_or (pos 0 ∷ o.o1 ∷ o.o2 ∷ o.o3 ∷ o.o4 ∷ []) n (pos 0)
 
 -- z, kept within 0 and top

@@ -5,8 +5,6 @@
 #![tactic(auto)]
 
 ghost use Rattle.std.specs.Prelude.{◌≡◌, cond, ◌+◌, ◌-◌, ◌^◌, ◌≤◌, ◌<◌, ltb, pos, ◌+ℤ◌, ◌-ℤ◌, ◌*ℤ◌, length};
-ghost use Rattle.std.proofs.Math.Option.{some};
-ghost use Rattle.std.specs.Int.Signed.{lt_z};
 ghost use Rattle.standard.specs.Samples.{sign, band_idx, edge_idx, edge_idx_of};
 ghost use Rattle.planes.specs.Places.{Filled};
 ghost use Rattle.rows.specs.Moves.{scaled_by, moves_of, value_of, held, moved};
@@ -14,21 +12,14 @@ ghost use Rattle.rows.specs.Categories.{Numbers};
 ghost use Rattle.rows.specs.Sample.{low_of, place_of, Only, Within};
 ghost use Rattle.rows.specs.Parts.{edge_row, band_row, Equal, Banded};
 
+use standard::Four;
+
 // ---- the offsets of a block
 
-// Four offsets, scaled to the depth: SaoOffsetVal of 1 to 4.
-#[derive(Clone, Copy)]
-pub struct Scaled {
-    pub o1: i16,
-    pub o2: i16,
-    pub o3: i16,
-    pub o4: i16,
-}
-
-// By how much samples are moved, and the greatest sample.
+// By how much samples are moved, SaoOffsetVal of 1 to 4, and the greatest sample.
 #[derive(Clone, Copy)]
 pub struct Moves {
-    pub by: Scaled,
+    pub by: Four<i16>,
     pub top: u16,
 }
 
@@ -39,19 +30,20 @@ fn scale(o: i8, shift: u32) -> i16
     (o as i16) * ((1u16 << shift) as i16)
 }
 
-pub fn scaled_by(o1: i8, o2: i8, o3: i8, o4: i8, shift: u32) -> Scaled
+// Offsets as coded, scaled to the depth.
+pub fn scaled_by(o: Four<i8>, shift: u32) -> Four<i16>
     requires { shift ≤ 6 }
-    ensures { result ≡ scaled_by shift o1 o2 o3 o4 }
+    ensures { result ≡ scaled_by shift o }
 {
-    Scaled {
-        o1: scale(o1, shift),
-        o2: scale(o2, shift),
-        o3: scale(o3, shift),
-        o4: scale(o4, shift),
+    Four {
+        o1: scale(o.o1, shift),
+        o2: scale(o.o2, shift),
+        o3: scale(o.o3, shift),
+        o4: scale(o.o4, shift),
     }
 }
 
-pub fn moves_of(o: Scaled, depth: u32) -> Moves
+pub fn moves_of(o: Four<i16>, depth: u32) -> Moves
     requires { depth ≤ 16 }
     ensures { result ≡ moves_of depth o }
 {
@@ -77,7 +69,8 @@ fn restored(v: i16) -> u16
     ((v as i32) + 32768) as u16
 }
 
-// A sample and an offset, lowered, and kept within 16 bits: one saturating sum of a vector's parts.
+// A sample and an offset, lowered, and kept within 16 bits: one saturating sum of a vector's parts. Of
+// i16's saturating_add the compiler makes none: with it edge takes 1.4 times as long.
 fn add_held(s: u16, o: i16) -> i16
     ensures { result ≡ low_of (held 65535 (pos s +ℤ o)) }
 {
@@ -91,17 +84,11 @@ fn add_held(s: u16, o: i16) -> i16
     v as i16
 }
 
-fn lesser(a: i16, b: i16) -> i16
-    ensures { result ≡ cond (lt_z a b) a b }
-{
-    if a < b { a } else { b }
-}
-
 // A sample moved by an offset, and kept within 0 and top.
 fn moved_by(s: u16, o: i16, top: u16) -> u16
     ensures { result ≡ held top (pos s +ℤ o) }
 {
-    restored(lesser(add_held(s, o), lowered(top)))
+    restored(add_held(s, o).min(lowered(top)))
 }
 
 // ---- a sample by its neighbours
@@ -110,15 +97,7 @@ fn moved_by(s: u16, o: i16, top: u16) -> u16
 fn sign_of(s: u16, a: u16) -> i16
     ensures { result ≡ sign (pos s -ℤ pos a) }
 {
-    let x = lowered(s);
-    let y = lowered(a);
-    if x < y {
-        return -1;
-    }
-    if y < x {
-        return 1;
-    }
-    0
+    s.cmp(&a) as i16
 }
 
 // o where n is k, and 0 elsewhere: a mask.
@@ -129,7 +108,7 @@ fn only(n: i16, k: i16, o: i16) -> i16
 }
 
 // The offset of a sum of two signs, that of its category: at most one of the four is not 0.
-fn edge_offset(o: Scaled, n: i16) -> i16
+fn edge_offset(o: Four<i16>, n: i16) -> i16
     ensures { result ≡ value_of o (edge_idx (pos 2 +ℤ n)) }
 {
     let a = only(n, -2, o.o1);
@@ -140,7 +119,7 @@ fn edge_offset(o: Scaled, n: i16) -> i16
 }
 
 fn edge_sample(m: Moves, s: u16, a: u16, b: u16) -> u16
-    ensures { result ≡ moved m (edge_idx_of s (some a) (some b)) s }
+    ensures { result ≡ moved m (edge_idx_of s (Some a) (Some b)) s }
 {
     moved_by(s, edge_offset(m.by, sign_of(s, a) + sign_of(s, b)), m.top)
 }
@@ -158,29 +137,34 @@ pub fn categories() -> [u16; 5]
 
 // ---- a sample by its band
 
-// A sample's band, less the position, modulo 32. A number beyond the depth has a place as well.
-fn place(s: u16, position: u16, depth: u32) -> u16
-    requires { Banded depth position }
-    ensures { result ≡ place_of depth position s }
-{
-    ((s >> (depth - 5)) + 32 - position) % 32
+// The band where the four of a block begin, and the depth of the samples, of which each 32nd part is a
+// band.
+#[derive(Clone, Copy)]
+pub struct Bands {
+    pub position: u16,
+    pub depth: u32,
+    ghost banded: { Banded depth position },
 }
 
-// o where k is at least from and below to, and 0 elsewhere: a mask. Of two tests in one another the
-// compiler makes one.
+impl Bands {
+    // A sample's band, less the position, modulo 32. A number beyond the depth has a place as well.
+    fn place(self, s: u16) -> u16
+        ensures { result ≡ place_of self.depth self.position s }
+    {
+        ((s >> (self.depth - 5)) + 32 - self.position) % 32
+    }
+}
+
+// o where k is at least from and below to, and 0 elsewhere: a mask. Of the two tests the compiler
+// makes one.
 fn within(k: u16, from: u16, to: u16, o: i16) -> i16
     ensures { Within k from to o result }
 {
-    if from <= k {
-        if k < to {
-            return o;
-        }
-    }
-    0
+    if from <= k && k < to { o } else { 0 }
 }
 
 // The offset of a place below 4; the other places have none.
-fn band_offset(o: Scaled, k: u16) -> i16
+fn band_offset(o: Four<i16>, k: u16) -> i16
     ensures { result ≡ value_of o (cond (ltb k 4) (k + 1) 0) }
 {
     let a = within(k, 0, 1, o.o1);
@@ -190,34 +174,32 @@ fn band_offset(o: Scaled, k: u16) -> i16
     a + b + c + d
 }
 
-fn band_sample(m: Moves, position: u16, depth: u32, s: u16) -> u16
-    requires { Banded depth position }
-    ensures { result ≡ moved m (band_idx depth position s) s }
+fn band_sample(m: Moves, bands: Bands, s: u16) -> u16
+    ensures { result ≡ moved m (band_idx bands.depth bands.position s) s }
 {
-    moved_by(s, band_offset(m.by, place(s, position, depth)), m.top)
+    moved_by(s, band_offset(m.by, bands.place(s)), m.top)
 }
 
 // ---- rows
+//
+// They go by an index: of what is written through an iterator over two slices no proof knows, once it is
+// done.
 
 // Samples whose neighbours are those of the parts a and b.
 pub fn edge_row(m: Moves, cur: &[u16], a: &[u16], b: &[u16], out: &mut [u16])
     requires { Equal cur.now a.now b.now out.old }
     ensures { Filled (length out.old) (edge_row m cur.now a.now b.now) out.old out.new }
 {
-    let mut i: usize = 0;
-    while i < out.len() {
-        out[i] = edge_sample(m, cur[i], a[i], b[i]);
-        i += 1;
+    for (i, o) in out.iter_mut().enumerate() {
+        *o = edge_sample(m, cur[i], a[i], b[i]);
     }
 }
 
-pub fn band_row(m: Moves, position: u16, depth: u32, cur: &[u16], out: &mut [u16])
-    requires { Banded depth position × (length cur.now ≡ length out.old) }
-    ensures { Filled (length out.old) (band_row m depth position cur.now) out.old out.new }
+pub fn band_row(m: Moves, bands: Bands, cur: &[u16], out: &mut [u16])
+    requires { length cur.now ≡ length out.old }
+    ensures { Filled (length out.old) (band_row m bands.depth bands.position cur.now) out.old out.new }
 {
-    let mut i: usize = 0;
-    while i < out.len() {
-        out[i] = band_sample(m, position, depth, cur[i]);
-        i += 1;
+    for (i, o) in out.iter_mut().enumerate() {
+        *o = band_sample(m, bands, cur[i]);
     }
 }

@@ -1,16 +1,19 @@
 -- How the parts of a block make the block, and what is lent of each.
 use mathlib.Core.Path.{◌≡◌, ◌∙◌, subst}
 use mathlib.Core.List.{List}
-use Prim.Native.Nat.{ℕ, ◌≤◌, ◌<◌}
+use Prim.Native.Nat.{ℕ, ◌*◌, ◌≤◌, ◌<◌}
 use native.Mathlib.Nat.{le_antisymm}
 use native.Mathlib.Omega.{arith}
 use lib.ListN.{length}
 use Rattle.standard.specs.declared.Layout.{Layout}
 use Rattle.standard.specs.declared.Rectangle.{Rectangle}
+use Rattle.standard.specs.Samples.{Step}
 use Rattle.standard.specs.Calls.{Written}
 use Rattle.planes.specs.Places.{block, row}
 use Rattle.planes.proofs.Blocks.{rows_then, columns_then}
-use Rattle.samples.specs.Blocks.{Lent}
+use Rattle.rows.specs.declared.Moves.{Moves}
+use Rattle.samples.specs.declared.Around.{Around}
+use Rattle.samples.specs.Blocks.{Lent, EdgeReady}
 
 module _ {w h : ℕ} {f : ℕ → ℕ → ℕ} {o o1 o2 o3 : List ℕ} where
   -- columns x0, a, b, x1, each not beyond the next
@@ -54,3 +57,17 @@ module _ {l : Layout} {r : Rectangle} {plane o : List ℕ} (k : Lent l r plane o
     deblocked = k.deblocked;
     filtered = e ∙ k.filtered;
   }
+
+-- a part of the block that is filtered by edge
+pub lent_of : {l : Layout} {m : Moves} {a b : Step} {o : Around} {r : Rectangle} {plane out : List ℕ} → EdgeReady l m a b o r plane
+    → (x0 x1 y0 y1 : ℕ) → x0 ≤ x1 → x1 ≤ r.x1 → y0 ≤ y1 → y1 ≤ r.y1 → length out ≡ l.width * l.height → Lent l (block x0 x1 y0 y1) plane out
+lent_of k x0 x1 y0 y1 a b c d e = record {
+  wide = k.placed.wide;
+  high = k.placed.high;
+  columns = a;
+  right = omega (arith, k.placed.right);
+  rows = c;
+  bottom = omega (arith, k.placed.bottom);
+  deblocked = k.deblocked;
+  filtered = e;
+}

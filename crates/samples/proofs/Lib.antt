@@ -1,6 +1,6 @@
-pub mod Machine
 pub mod Tables
 pub mod Reach
+pub mod Lines
 pub mod Sides
 pub mod Parts
 pub mod Open

@@ -1,13 +1,24 @@
 -- A side in three parts: its first, those between and its last, each joined to those between where it is like them.
-use mathlib.Core.Path.{◌≡◌, sym, ap, ◌∙◌}
-use mathlib.Core.Bool.{Bool}
-use mathlib.Core.Logic.{inl, inr}
+use mathlib.Core.Path.{◌≡◌, refl, sym, ap, ◌∙◌}
+use mathlib.Core.Bool.{Bool, true, false, not, beq}
+use mathlib.Core.Logic.{◌⊎◌, inl, inr}
 use Prim.Native.Nat.{ℕ, ◌+◌, ◌-◌, ◌≤◌, ◌<◌, min}
 use native.Mathlib.Decide.{dec_lt}
 use native.Mathlib.Omega.{arith}
-use Rattle.samples.specs.Around.{Differ, Parted}
+use mir.Val.{bool_byte}
+use Rattle.samples.specs.Around.{Parted}
 
-pub differ_small : {p q : Bool} {n : ℕ} → Differ p q n → n ≤ 1
+-- n is 1 where two answers differ, and 0 where they do not
+abbrev Differ : Bool → Bool → ℕ → Type 0
+Differ p q n = ((p ≡ q) × (n ≡ 0)) ⊎ ((¬ (p ≡ q)) × (n ≡ 1))
+
+differs : (p q : Bool) {n : ℕ} → n ≡ bool_byte (not (beq p q)) → Differ p q n
+differs true true e = inl (refl, e)
+differs true false e = inr (λ f. cc, e)
+differs false true e = inr (λ f. cc, e)
+differs false false e = inl (refl, e)
+
+differ_small : {p q : Bool} {n : ℕ} → Differ p q n → n ≤ 1
 differ_small (inl e) = omega arith
 differ_small (inr e) = omega arith
 
@@ -17,7 +28,13 @@ same_at_zero (inl e) z = e.0
 same_at_zero (inr e) z = absurd (omega arith)
 
 module _ (f : ℕ → Bool) (a b : ℕ) (some : a < b) (alike : (x x' : ℕ) → a < x → x + 1 < b → a < x' → x' + 1 < b → f x ≡ f x')
-    (p q t : Bool) (e n m : ℕ) (ee : e ≡ min (a + 1) (b - 1)) (pe : p ≡ f a) (qe : q ≡ f e) (te : t ≡ f (b - 1)) (np : Differ p q n) (mt : Differ t q m) where
+    (p q t : Bool) (e n m : ℕ) (ee : e ≡ min (a + 1) (b - 1)) (pe : p ≡ f a) (qe : q ≡ f e) (te : t ≡ f (b - 1)) (ne : n ≡ bool_byte (not (beq p q))) (me : m ≡ bool_byte (not (beq t q))) where
+  np : Differ p q n
+  np = differs p q ne
+
+  mt : Differ t q m
+  mt = differs t q me
+
   order : Differ p q n → Differ t q m → a + n ≤ b - m
   order (inl g) (inl h) = omega arith
   order (inl g) (inr h) = omega arith

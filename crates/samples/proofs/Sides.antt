@@ -1,6 +1,6 @@
 -- Where the neighbours of a sample lie, and that between the ends of a side every short step stays in the block.
 use mathlib.Core.Path.{◌≡◌, refl, sym, ap, ap₂, ◌∙◌}
-use mathlib.Core.Bool.{Bool, ◌&&◌}
+use mathlib.Core.Bool.{Bool, true, false, ◌&&◌}
 use Prim.Native.Nat.{ℕ, zero, suc, ◌+◌, ◌-◌, ◌≤◌, ◌<◌}
 use native.Mathlib.Omega.{arith}
 use borrow.Author.Tests.{lt-ltb, le-ltb}
@@ -53,10 +53,17 @@ unfolding answered
 free_by o r u v e a d = e ∙ ap₂ (answer_of o) a d
 
 -- and both
-pub open_by : (o : Around) (r : Rectangle) (a b : Step) (x y : ℕ) {t p q : Bool} → t ≡ (p && q) → p ≡ answered o r (pos x +ℤ a.h) (pos y +ℤ a.v)
-    → q ≡ answered o r (pos x +ℤ b.h) (pos y +ℤ b.v) → t ≡ is_open o r a b x y
+pub open_by : (o : Around) (r : Rectangle) (a b : Step) (x y : ℕ) {p q : Bool} → p ≡ answered o r (pos x +ℤ a.h) (pos y +ℤ a.v)
+    → q ≡ answered o r (pos x +ℤ b.h) (pos y +ℤ b.v) → (p && q) ≡ is_open o r a b x y
 unfolding is_open
-open_by o r a b x y e f g = e ∙ ap₂ (λ (s t : Bool). s && t) f g
+open_by o r a b x y f g = ap₂ (λ (s t : Bool). s && t) f g
+
+-- the second decides where the first may, and else the first
+pub true_and : {p : Bool} (q : Bool) → p ≡ true → q ≡ (p && q)
+true_and q e = ap (λ (t : Bool). t && q) (sym e)
+
+pub false_and : {p : Bool} (q : Bool) → p ≡ false → p ≡ (p && q)
+false_and q e = e ∙ ap (λ (t : Bool). t && q) (sym e)
 
 -- ---- between the ends
 

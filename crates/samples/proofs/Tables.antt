@@ -1,23 +1,25 @@
 -- The code's table of steps is the standard's, so the standard's laws of it hold: in each class the second step is the first negated.
 use mathlib.Core.Path.{◌≡◌, refl, sym, ap, ◌∙◌}
 use mathlib.Core.List.{List, [], ◌∷◌}
-use Prim.Native.Nat.{ℕ, zero, suc, ◌<◌}
+use Prim.Native.Nat.{ℕ, zero, suc, ◌≤◌, ◌<◌}
 use native.Mathlib.Omega.{arith}
-use lib.IntN.{ℤ, pos, negsuc}
+use lib.IntN.{nat_abs}
 use Rattle.standard.specs.Samples.{steps_of}
 use Rattle.standard.proofs.Tables.{negated, steps_negate}
 use Rattle.samples.specs.declared.Step.{Step}
-use Rattle.samples.specs.Steps.{step_to, entry_of, Steps}
+use Rattle.samples.specs.declared.Way.{Way}
+use Rattle.samples.specs.declared.Way.TheVariants.{Back, Stay, On}
+use Rattle.samples.specs.Steps.{by, step_to, entry_of, Steps, ByOne}
 
-abbrev step : ℤ → ℤ → Step
+abbrev step : Way → Way → Step
 step a b = record { dx = a; dy = b }
 
 abbrev pub table : List (List Step)
 table =
-    (step (negsuc 0) (pos 0) ∷ step (pos 1) (pos 0) ∷ [])
-    ∷ (step (pos 0) (negsuc 0) ∷ step (pos 0) (pos 1) ∷ [])
-    ∷ (step (negsuc 0) (negsuc 0) ∷ step (pos 1) (pos 1) ∷ [])
-    ∷ (step (pos 1) (negsuc 0) ∷ step (negsuc 0) (pos 1) ∷ [])
+    (step Back Stay ∷ step On Stay ∷ [])
+    ∷ (step Stay Back ∷ step Stay On ∷ [])
+    ∷ (step Back Back ∷ step On On ∷ [])
+    ∷ (step On Back ∷ step Back On ∷ [])
     ∷ []
 
 -- both steps of a class
@@ -32,10 +34,19 @@ table_is (suc (suc (suc (suc c)))) h = absurd (omega arith)
 pub table_negates : (class : ℕ) → class < 4 → step_to (entry_of table class 1) ≡ negated (step_to (entry_of table class 0))
 table_negates class h = (table_is class h).1 ∙ steps_negate class ∙ sym (ap negated (table_is class h).0)
 
+-- a step of such a table is by one at most
+pub by_one : (s : Step) → ByOne (step_to s)
+by_one s = record { across = way_one s.dx; down = way_one s.dy }
+  where
+    way_one : (w : Way) → nat_abs (by w) ≤ 1
+    way_one Back = omega arith
+    way_one Stay = omega arith
+    way_one On = omega arith
+
 -- an entry of such a table, at the place that a class has by another name
-module _ {t : List (List Step)} (steps : Steps t) (k : ℕ) (h : k < 4) {s : Step} {class : ℕ} (e : class ≡ k) where
+module _ {t : List (List Step)} (steps : Steps t) {class k : ℕ} (h : class < 4) (e : k ≡ class) {s : Step} where
   pub first_of : s ≡ entry_of t k 0 → step_to s ≡ (steps_of class).0
-  first_of f = ap step_to f ∙ steps.first k h ∙ sym (ap (λ (n : ℕ). (steps_of n).0) e)
+  first_of f = ap step_to f ∙ ap (λ (n : ℕ). step_to (entry_of t n 0)) e ∙ steps.first class h
 
   pub second_of : s ≡ entry_of t k 1 → step_to s ≡ (steps_of class).1
-  second_of f = ap step_to f ∙ steps.second k h ∙ sym (ap (λ (n : ℕ). (steps_of n).1) e)
+  second_of f = ap step_to f ∙ ap (λ (n : ℕ). step_to (entry_of t n 1)) e ∙ steps.second class h

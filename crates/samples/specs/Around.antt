@@ -1,5 +1,5 @@
 -- What may be compared across the borders of a block: eight answers, one for each block around it.
-use Rattle.std.specs.Prelude.{◌≡◌, Bool, true, false, cond, ◌&&◌, ◌⊎◌, ℕ, ◌≤◌, ◌<◌, ltb, ℤ, pos, negsuc, ◌+ℤ◌}
+use Rattle.std.specs.Prelude.{◌≡◌, Bool, true, false, cond, ◌&&◌, ℕ, ◌≤◌, ◌<◌, ltb, ℤ, pos, negsuc, ◌+ℤ◌}
 use Rattle.standard.specs.declared.Rectangle.{Rectangle}
 use Rattle.standard.specs.declared.Layout.{Layout}
 use Rattle.standard.specs.Picture.{Inside}
@@ -104,9 +104,6 @@ AllOpen o = (across down : Side) → answer_of o across down ≡ true
 -- rows y0 up to and without y1 are open at the same columns
 abbrev pub Alike : Around → Rectangle → Step → Step → ℕ → ℕ → Type 0
 Alike o r a b y0 y1 = (x y : ℕ) → y0 ≤ y → y < y1 → is_open o r a b x y ≡ is_open o r a b x y0
-
-abbrev pub Differ : Bool → Bool → ℕ → Type 0
-Differ p q n = ((p ≡ q) × (n ≡ 0)) ⊎ ((¬ (p ≡ q)) × (n ≡ 1))
 
 -- columns a up to and without b in three parts, in each of which f is the same
 pub record Parted (f : ℕ → Bool) (a b : ℕ) (k : Runs) : Type 0 where

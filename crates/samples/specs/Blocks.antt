@@ -7,10 +7,10 @@ use Rattle.standard.specs.declared.Offsets.TheVariants.{Off, Band, Edge}
 use Rattle.standard.specs.declared.Rectangle.{Rectangle}
 use Rattle.standard.specs.Picture.{Inside}
 use Rattle.standard.specs.Samples.{Step, Context, at, band_idx, edge_idx_of, neighbour}
+use Rattle.planes.specs.Places.{Placed}
 use Rattle.rows.specs.declared.Moves.{Moves}
 use Rattle.rows.specs.Moves.{moved}
 use Rattle.samples.specs.declared.Around.{Around}
-use Rattle.samples.specs.Steps.{ByOne}
 use Rattle.samples.specs.Around.{Reaches, ReachesBy}
 
 -- two planes of a layout, and a rectangle in them
@@ -26,8 +26,8 @@ pub record Lent (l : Layout) (r : Rectangle) (plane out : List ℕ) : Type 0 whe
 
 abbrev pub Legal : Offsets → Type 0
 Legal Off = Unit {0}
-Legal (Band position o1 o2 o3 o4) = position < 32
-Legal (Edge class o1 o2 o3 o4) = class < 4
+Legal (Band position offsets) = position < 32
+Legal (Edge class offsets) = class < 4
 
 -- what a caller of the filter has tested: a block that is not empty, a depth and a set of the rules, no sample of the block above the depth, and answers
 -- that bar what is outside the picture
@@ -69,12 +69,10 @@ edge_if true l m a b plane x y = compared l m a b plane x y
 edge_if false l m a b plane x y = at plane l.width x y
 
 -- what the filter of a block by edge takes, whose neighbours are the steps a and b away
-pub record EdgeReady (l : Layout) (m : Moves) (a b : Step) (o : Around) (r : Rectangle) (plane out : List ℕ) : Type 0 where
-  pub lent : Lent l r plane out
-  pub some_columns : r.x0 < r.x1
+pub record EdgeReady (l : Layout) (m : Moves) (a b : Step) (o : Around) (r : Rectangle) (plane : List ℕ) : Type 0 where
+  pub placed : Placed l.width l.height r
   pub some_rows : r.y0 < r.y1
-  pub first_by_one : ByOne a
-  pub second_by_one : ByOne b
+  pub deblocked : length plane ≡ l.width * l.height
   pub under : Under l m r plane
   pub first_reaches : ReachesBy l r o a
   pub second_reaches : ReachesBy l r o b

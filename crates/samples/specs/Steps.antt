@@ -1,24 +1,32 @@
 -- Steps from a sample to its neighbours.
-use Rattle.std.specs.Prelude.{◌≡◌, true, List, [], ℕ, ◌≤◌, ◌<◌, pos, nat_abs, neg_ℤ, ◌+ℤ◌, get_or}
+use Rattle.std.specs.Prelude.{◌≡◌, true, List, [], ℕ, ◌≤◌, ◌<◌, ℤ, pos, negsuc, nat_abs, neg_ℤ, ◌+ℤ◌, get_or}
 use Rattle.standard.specs.declared.Layout.{Layout}
 use Rattle.standard.specs.declared.Rectangle.{Rectangle}
 use Rattle.standard.specs.Picture.{Inside}
 use Rattle.standard.specs.Samples as standard
 use Rattle.samples.specs.declared.Step.{Step}
+use Rattle.samples.specs.declared.Way.{Way}
+use Rattle.samples.specs.declared.Way.TheVariants.{Back, Stay, On}
+
+-- by how much a way leads on
+abbrev pub by : Way → ℤ
+by Back = negsuc 0
+by Stay = pos 0
+by On = pos 1
 
 -- the standard's step
 abbrev pub step_to : Step → standard.Step
-step_to s = record { h = s.dx; v = s.dy }
+step_to s = record { h = by s.dx; v = by s.dy }
 
 -- of a table of classes by two neighbours, the step to neighbour k
 abbrev pub entry_of : List (List Step) → ℕ → ℕ → Step
-entry_of table class k = get_or (get_or table class []) k (record { dx = pos 0; dy = pos 0 })
+entry_of table class k = get_or (get_or table class []) k (record { dx = Stay; dy = Stay })
 
 -- THE TABLE THAT THE CODE HAS: its steps are those of the definitions, and in each class the second is the first negated
 pub record Steps (table : List (List Step)) : Type 0 where
   pub first : (class : ℕ) → class < 4 → step_to (entry_of table class 0) ≡ (standard.steps_of class).0
   pub second : (class : ℕ) → class < 4 → step_to (entry_of table class 1) ≡ (standard.steps_of class).1
-  pub negated : (class : ℕ) → class < 4 → step_to (entry_of table class 1) ≡ record { h = neg_ℤ (entry_of table class 0).dx; v = neg_ℤ (entry_of table class 0).dy }
+  pub negated : (class : ℕ) → class < 4 → step_to (entry_of table class 1) ≡ record { h = neg_ℤ (by (entry_of table class 0).dx); v = neg_ℤ (by (entry_of table class 0).dy) }
 
 -- a step by one at most, across and down
 pub record ByOne (step : standard.Step) : Type 0 where

@@ -8,24 +8,10 @@ use lib.Seq.{sets, sets-eq, take_at, drop-append-add, length-take-le, drop-cons,
 use Rattle.standard.specs.declared.CtuSet.{CtuSet}
 use Rattle.standard.specs.Table.{set_size, entry_size, encode, entry, entered}
 use Rattle.standard.proofs.Entries.{encode_length, entry_set}
-use Rattle.sets.specs.declared.Six.{Six}
-use Rattle.sets.specs.Entries.{list_of, Coded, put}
+use Rattle.sets.specs.declared.SetBytes.{SetBytes}
+use Rattle.sets.specs.Entries.{list_of, CodedSet, put}
 
 -- ---- put
-
--- bytes stored one after the other are put there
-pub sets_put : (l : List ℕ) (at : ℕ) (new : List ℕ) → at + length new ≤ length l → sets l at new ≡ put l at new
-sets_put l at new h = sets-eq new l at h ∙ append_assoc (take at l) new (drop (at + length new) l)
-
-pub six_stored : (l : List ℕ) (at : ℕ) (s : Six) → at + 6 ≤ length l
-    → set (set (set (set (set (set l at s.kind) (at + 1) s.place) (at + 2) s.o1) (at + 3) s.o2) (at + 4) s.o3) (at + 5) s.o4 ≡ put l at (list_of s)
-six_stored l at s h =
-    let e1 : at + 1 ≡ suc at = omega arith in
-    let e2 : at + 2 ≡ suc (suc at) = omega arith in
-    let e3 : at + 3 ≡ suc (suc (suc at)) = omega arith in
-    let e4 : at + 4 ≡ suc (suc (suc (suc at))) = omega arith in
-    let e5 : at + 5 ≡ suc (suc (suc (suc (suc at)))) = omega arith in
-    rw (e1, e2, e3, e4, e5) (sets_put l at (list_of s) h)
 
 module _ (l : List ℕ) (at : ℕ) (x y : List ℕ) (room : at + length x ≤ length l) where
   abbrev front : List ℕ
@@ -51,16 +37,13 @@ module _ (l : List ℕ) (at : ℕ) (x y : List ℕ) (room : at + length x ≤ le
       ∙ ap (λ (w : List ℕ). take at l ++ w) (sym (append_assoc x y (drop (n + length y) l)) ∙ ap (λ (k : ℕ). (x ++ y) ++ drop k l) e)
 
 -- three components, one behind the other
-pub put_three : (l : List ℕ) (at : ℕ) (a b c : Six) → at + set_size ≤ length l
-    → put (put (put l at (list_of a)) (at + 6) (list_of b)) (at + 12) (list_of c) ≡ put l at (list_of a ++ (list_of b ++ list_of c))
-put_three l at a b c h =
-    ap (λ (w : List ℕ). put w (at + 12) (list_of c)) (put_more l at (list_of a) (list_of b) (omega arith))
-    ∙ put_more l at (list_of a ++ list_of b) (list_of c) (omega arith)
-
-pub put_set : (l : List ℕ) (at : ℕ) (q : CtuSet) (a b c : Six) → at + set_size ≤ length l → Coded q.luma a → Coded q.cb b → Coded q.cr c
-    → put (put (put l at (list_of a)) (at + 6) (list_of b)) (at + 12) (list_of c) ≡ put l at (encode q)
+pub put_set : (l : List ℕ) (at : ℕ) (q : CtuSet) (b : SetBytes) → at + set_size ≤ length l → CodedSet q b
+    → put (put (put l at (list_of b.luma)) (at + 6) (list_of b.cb)) (at + 12) (list_of b.cr) ≡ put l at (encode q)
 unfolding encode
-put_set l at q a b c h x y z = put_three l at a b c h ∙ ap (put l at) (ap₂ ◌++◌ x.bytes (ap₂ ◌++◌ y.bytes z.bytes))
+put_set l at q b h c =
+    ap (λ (w : List ℕ). put w (at + 12) (list_of b.cr)) (put_more l at (list_of b.luma) (list_of b.cb) (omega arith))
+    ∙ put_more l at (list_of b.luma ++ list_of b.cb) (list_of b.cr) (omega arith)
+    ∙ ap (put l at) (ap₂ ◌++◌ c.luma.bytes (ap₂ ◌++◌ c.cb.bytes c.cr.bytes))
 
 -- as an entry of the table, and where there is room for a set only
 pub put_entered : (l : List ℕ) (k : ℕ) (q : CtuSet) → put l (entry_size * k) (encode q) ≡ entered l k q
@@ -73,20 +56,6 @@ pub put_alone : (l : List ℕ) (q : CtuSet) → length l ≡ set_size → put l 
 put_alone l q e = ap (λ (r : List ℕ). encode q ++ r) (drop_of_length-le l {i = 0 + length (encode q)} (omega (arith, encode_length q))) ∙ append-nil (encode q)
 
 -- ---- read
-
-one_read : (n : ℕ) (l : List ℕ) (at next : ℕ) → next ≡ suc at → at < length l → take (suc n) (drop at l) ≡ get_or l at 0 ∷ take n (drop next l)
-one_read n l at next e h = rw e (ap (take (suc n)) (drop-cons l at 0 h))
-
-pub six_read : (l : List ℕ) (at : ℕ) → at + 6 ≤ length l
-    → get_or l at 0 ∷ get_or l (at + 1) 0 ∷ get_or l (at + 2) 0 ∷ get_or l (at + 3) 0 ∷ get_or l (at + 4) 0 ∷ get_or l (at + 5) 0 ∷ [] ≡ take 6 (drop at l)
-six_read l at h =
-    let r0 = one_read 5 l at (at + 1) (omega arith) (omega arith) in
-    let r1 = one_read 4 l (at + 1) (at + 2) (omega arith) (omega arith) in
-    let r2 = one_read 3 l (at + 2) (at + 3) (omega arith) (omega arith) in
-    let r3 = one_read 2 l (at + 3) (at + 4) (omega arith) (omega arith) in
-    let r4 = one_read 1 l (at + 4) (at + 5) (omega arith) (omega arith) in
-    let r5 = one_read 0 l (at + 5) (at + 6) (omega arith) (omega arith) in
-    rw (r0, r1, r2, r3, r4, r5) refl
 
 -- an entry is its three components
 pub entry_read : (l : List ℕ) (k : ℕ) → entry l k ≡ take 6 (drop (entry_size * k) l) ++ (take 6 (drop (entry_size * k + 6) l) ++ take 6 (drop (entry_size * k + 12) l))

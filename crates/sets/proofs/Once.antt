@@ -2,21 +2,20 @@
 use mathlib.Core.Path.{◌≡◌, refl, sym, ap, ◌∙◌}
 use mathlib.Core.List.{List}
 use mathlib.Core.Logic.{inl, inr}
+use Rattle.std.specs.Prelude.{Option, None, Some}
 use Prim.Native.Nat.{ℕ}
 use Rattle.standard.specs.declared.Offsets.{Offsets}
 use Rattle.standard.specs.declared.CtuSet.{CtuSet}
 use Rattle.standard.specs.declared.Switches.{Switches}
 use Rattle.standard.specs.Table.{encode, entered, offsets_at}
-use Rattle.sets.specs.declared.Found.{Found}
-use Rattle.sets.specs.declared.Found.TheVariants.{Set, Bad}
 use Rattle.sets.specs.Entries.{Finds, Stands, StandsFor}
 use Rattle.sets.proofs.Finding.{sound_of, found_stored}
 
-pub get_set_once : (s : Switches) (table : List ℕ) (k : ℕ) (r r' : Found) → Finds s table k r → Finds s table k r' → r ≡ r'
-get_set_once s table k (Set q) (Set q') f f' = ap Set (sym (found_stored f) ∙ found_stored f')
-get_set_once s table k (Set q) Bad f f' = absurd (f' (sound_of f))
-get_set_once s table k Bad (Set q) f f' = absurd (f (sound_of f'))
-get_set_once s table k Bad Bad f f' = refl
+pub get_set_once : (s : Switches) (table : List ℕ) (k : ℕ) (r r' : Option CtuSet) → Finds s table k r → Finds s table k r' → r ≡ r'
+get_set_once s table k (Some q) (Some q') f f' = ap Some (sym (found_stored f) ∙ found_stored f')
+get_set_once s table k (Some q) None f f' = absurd (f' (sound_of f))
+get_set_once s table k None (Some q) f f' = absurd (f (sound_of f'))
+get_set_once s table k None None f f' = refl
 
 pub put_set_once : (table : List ℕ) (k : ℕ) (q : CtuSet) (exit exit' : List ℕ) → exit ≡ entered table k q → exit' ≡ entered table k q → exit ≡ exit'
 put_set_once table k q exit exit' e e' = e ∙ sym e'

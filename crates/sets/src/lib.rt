@@ -2,35 +2,33 @@
 // component's six bytes of the table: offsets are signed only where they become bytes, or bytes them.
 #![tactic(auto)]
 
-ghost use Rattle.std.specs.Prelude.{◌≡◌, ◌++◌, ◌+◌, ◌*◌, ◌≤◌, nat_abs, length, take, drop};
+ghost use Rattle.std.specs.Prelude.{◌≡◌, ◌+◌, ◌*◌, ◌≤◌, nat_abs, length, take, drop};
 ghost use Rattle.standard.specs.declared.Offsets.TheVariants.{Off};
-ghost use Rattle.standard.specs.Sets.{most, Small, EdgeSigns, Fits, Shares, Valid};
-ghost use Rattle.standard.specs.Table.{set_size, entry_size, offset_byte, offset_of, encode_offsets, encode, entered, offsets_at};
+ghost use Rattle.standard.specs.Sets.{most, four, Small, EdgeSigns, Fits, Shares, Valid};
+ghost use Rattle.standard.specs.Table.{set_size, entry_size, offset_byte, offset_of, encode, entered, offsets_at};
 ghost use Rattle.standard.specs.Refusals.{Tells};
-ghost use Rattle.sets.specs.Entries.{list_of, says, set_of, Coded, LumaRuled, ChromaRuled, put, Finds, Stands, StandsFor};
+ghost use Rattle.sets.specs.Entries.{list_of, offsets_in, says, set_of, Coded, CodedSet, LumaRuled, ChromaRuled, put, Finds, Encodes, Codes, Stands, StandsFor};
 
-use standard::{CtuSet, ENTRY_BYTES, Offsets, SET_BYTES, Switches};
+use standard::{CtuSet, ENTRY_BYTES, Four, Offsets, SET_BYTES, Switches};
 
 // One component in an entry of the table: its type, its band position or class, and its offsets, each
 // plus 128.
-#[derive(Clone, Copy)]
+#[derive(Clone, Copy, PartialEq, Eq)]
 struct Six {
     kind: u8,
     place: u8,
-    o1: u8,
-    o2: u8,
-    o3: u8,
-    o4: u8,
+    offsets: Four<u8>,
 }
 
-// What an entry of the table holds.
+// The bytes of a set: an entry of the table, and what crosses in a call.
 #[derive(Clone, Copy)]
-pub enum Found {
-    Set(CtuSet),
-    Bad,
+struct SetBytes {
+    luma: Six,
+    cb: Six,
+    cr: Six,
 }
 
-// ---- an offset, and a component, as bytes
+// ---- an offset, a component and a set, as bytes
 
 fn byte_of(o: i8) -> u8
     ensures { result ≡ offset_byte o }
@@ -44,139 +42,108 @@ fn offset_of(b: u8) -> i8
     (b as i32 - 128) as i8
 }
 
-fn bytes_of(o: Offsets) -> Six
-    ensures { Coded o result }
+fn bytes_of(o: Four<i8>) -> Four<u8>
+    ensures { result ≡ four (offset_byte o.o1) (offset_byte o.o2) (offset_byte o.o3) (offset_byte o.o4) }
 {
-    match o {
-        Offsets::Off => Six {
-            kind: 0,
-            place: 0,
-            o1: 0,
-            o2: 0,
-            o3: 0,
-            o4: 0,
-        },
-        Offsets::Band {
-            position,
-            o1,
-            o2,
-            o3,
-            o4,
-        } => {
-            let b1 = byte_of(o1);
-            let b2 = byte_of(o2);
-            let b3 = byte_of(o3);
-            let b4 = byte_of(o4);
-            Six {
+    Four {
+        o1: byte_of(o.o1),
+        o2: byte_of(o.o2),
+        o3: byte_of(o.o3),
+        o4: byte_of(o.o4),
+    }
+}
+
+fn offsets_of(b: Four<u8>) -> Four<i8>
+    ensures { result ≡ offsets_in b }
+{
+    Four {
+        o1: offset_of(b.o1),
+        o2: offset_of(b.o2),
+        o3: offset_of(b.o3),
+        o4: offset_of(b.o4),
+    }
+}
+
+impl From<Offsets> for Six {
+    ghost from_gives = { Coded };
+
+    fn from(o: Offsets) -> Six {
+        match o {
+            Offsets::Off => Six {
+                kind: 0,
+                place: 0,
+                offsets: Four {
+                    o1: 0,
+                    o2: 0,
+                    o3: 0,
+                    o4: 0,
+                },
+            },
+            Offsets::Band { position, offsets } => Six {
                 kind: 1,
                 place: position,
-                o1: b1,
-                o2: b2,
-                o3: b3,
-                o4: b4,
-            }
-        }
-        Offsets::Edge {
-            class,
-            o1,
-            o2,
-            o3,
-            o4,
-        } => {
-            let b1 = byte_of(o1);
-            let b2 = byte_of(o2);
-            let b3 = byte_of(o3);
-            let b4 = byte_of(o4);
-            Six {
+                offsets: bytes_of(offsets),
+            },
+            Offsets::Edge { class, offsets } => Six {
                 kind: 2,
                 place: class,
-                o1: b1,
-                o2: b2,
-                o3: b3,
-                o4: b4,
-            }
+                offsets: bytes_of(offsets),
+            },
         }
     }
 }
 
 // Bytes that encode nothing say something or other; `is_code` finds them out.
-fn offsets_of(s: Six) -> Offsets
-    ensures { result ≡ says s }
-{
-    let kind = s.kind;
-    if kind == 0 {
-        return Offsets::Off;
+impl From<Six> for Offsets {
+    ghost from_gives = { λ s o. o ≡ says s };
+
+    #[tactic(auto, using(crate::proofs::Bytes::says_off, crate::proofs::Bytes::says_band, crate::proofs::Bytes::says_edge))]
+    fn from(s: Six) -> Offsets {
+        match s.kind {
+            0 => Offsets::Off,
+            1 => Offsets::Band {
+                position: s.place,
+                offsets: offsets_of(s.offsets),
+            },
+            _ => Offsets::Edge {
+                class: s.place,
+                offsets: offsets_of(s.offsets),
+            },
+        }
     }
-    let place = s.place;
-    let o1 = offset_of(s.o1);
-    let o2 = offset_of(s.o2);
-    let o3 = offset_of(s.o3);
-    let o4 = offset_of(s.o4);
-    if kind == 1 {
-        return Offsets::Band {
-            position: place,
-            o1,
-            o2,
-            o3,
-            o4,
-        };
+}
+
+impl From<CtuSet> for SetBytes {
+    ghost from_gives = { CodedSet };
+
+    fn from(q: CtuSet) -> SetBytes {
+        SetBytes {
+            luma: q.luma.into(),
+            cb: q.cb.into(),
+            cr: q.cr.into(),
+        }
     }
-    Offsets::Edge {
-        class: place,
-        o1,
-        o2,
-        o3,
-        o4,
+}
+
+impl From<SetBytes> for CtuSet {
+    ghost from_gives = { λ b q. q ≡ set_of b };
+
+    fn from(b: SetBytes) -> CtuSet {
+        CtuSet {
+            luma: b.luma.into(),
+            cb: b.cb.into(),
+            cr: b.cr.into(),
+        }
     }
 }
 
 // ---- compared
 
-fn same_bytes(a: Six, b: Six) -> bool
-    ensures { Tells (list_of a ≡ list_of b) result }
-{
-    if a.kind != b.kind {
-        return false;
-    }
-    if a.place != b.place {
-        return false;
-    }
-    if a.o1 != b.o1 {
-        return false;
-    }
-    if a.o2 != b.o2 {
-        return false;
-    }
-    if a.o3 != b.o3 {
-        return false;
-    }
-    a.o4 == b.o4
-}
-
-fn same_offsets(a: Offsets, b: Offsets) -> bool
-    ensures { Tells (a ≡ b) result }
-{
-    let x = bytes_of(a);
-    let y = bytes_of(b);
-    same_bytes(x, y)
-}
-
+#[tactic(auto, using(standard::proofs::Same::tells_same_set))]
 pub fn same_set(a: CtuSet, b: CtuSet) -> bool
     ensures { Tells (a ≡ b) result }
 {
-    let al = a.luma;
-    let bl = b.luma;
-    if !same_offsets(al, bl) {
-        return false;
-    }
-    let ab = a.cb;
-    let bb = b.cb;
-    if !same_offsets(ab, bb) {
-        return false;
-    }
-    let ar = a.cr;
-    let br = b.cr;
-    same_offsets(ar, br)
+    a == b
 }
 
 // ---- judged
@@ -185,65 +152,37 @@ pub fn same_set(a: CtuSet, b: CtuSet) -> bool
 fn is_small(b: u8, m: u32) -> bool
     ensures { Tells (nat_abs (offset_of b) ≤ m) result }
 {
-    if b < 128 {
-        return (128 - b) as u32 <= m;
-    }
-    (b - 128) as u32 <= m
+    b.abs_diff(128) as u32 <= m
 }
 
-fn are_small(s: Six, m: u32) -> bool
-    ensures { Tells (Small m (offset_of s.o1) (offset_of s.o2) (offset_of s.o3) (offset_of s.o4)) result }
+fn are_small(b: Four<u8>, m: u32) -> bool
+    ensures { Tells (Small m (offsets_in b)) result }
 {
-    if !is_small(s.o1, m) {
-        return false;
-    }
-    if !is_small(s.o2, m) {
-        return false;
-    }
-    if !is_small(s.o3, m) {
-        return false;
-    }
-    is_small(s.o4, m)
+    is_small(b.o1, m) && is_small(b.o2, m) && is_small(b.o3, m) && is_small(b.o4, m)
 }
 
-fn has_edge_signs(s: Six) -> bool
-    ensures { Tells (EdgeSigns (offset_of s.o1) (offset_of s.o2) (offset_of s.o3) (offset_of s.o4)) result }
+fn has_edge_signs(b: Four<u8>) -> bool
+    ensures { Tells (EdgeSigns (offsets_in b)) result }
 {
-    if s.o1 < 128 {
-        return false;
-    }
-    if s.o2 < 128 {
-        return false;
-    }
-    if s.o3 > 128 {
-        return false;
-    }
-    s.o4 <= 128
+    b.o1 >= 128 && b.o2 >= 128 && b.o3 <= 128 && b.o4 <= 128
 }
 
+#[tactic(auto, using(crate::proofs::Bytes::says_off, crate::proofs::Bytes::off_says))]
 fn is_off(s: Six) -> bool
     ensures { Tells (says s ≡ Off) result }
 {
     s.kind == 0
 }
 
+#[tactic(auto, using(crate::proofs::Bytes::says_off, crate::proofs::Bytes::says_band, crate::proofs::Bytes::says_edge))]
 fn is_fit(s: Six, m: u32) -> bool
     ensures { Tells (Fits m (says s)) result }
 {
-    let kind = s.kind;
-    if kind == 0 {
-        return true;
+    match s.kind {
+        0 => true,
+        1 => are_small(s.offsets, m) && s.place < 32,
+        _ => are_small(s.offsets, m) && s.place < 4 && has_edge_signs(s.offsets),
     }
-    if !are_small(s, m) {
-        return false;
-    }
-    if kind == 1 {
-        return s.place < 32;
-    }
-    if s.place >= 4 {
-        return false;
-    }
-    has_edge_signs(s)
 }
 
 // The same, at the component's depth.
@@ -254,68 +193,48 @@ fn is_fit_at(s: Switches, component: u8, six: Six) -> bool
 }
 
 // Whether Cr has Cb's type and class.
+#[tactic(auto, using(crate::proofs::Bytes::says_off, crate::proofs::Bytes::says_band, crate::proofs::Bytes::says_edge))]
 fn is_shared(cb: Six, cr: Six) -> bool
     ensures { Tells (Shares (says cb) (says cr)) result }
 {
-    if cb.kind == 0 {
-        return cr.kind == 0;
+    match cb.kind {
+        0 => cr.kind == 0,
+        1 => cr.kind == 1,
+        _ => cr.kind >= 2 && cb.place == cr.place,
     }
-    if cb.kind == 1 {
-        return cr.kind == 1;
-    }
-    if cr.kind < 2 {
-        return false;
-    }
-    cb.place == cr.place
 }
 
 fn is_luma_ruled(s: Switches, luma: Six) -> bool
     ensures { Tells (LumaRuled s (says luma)) result }
 {
     if s.luma {
-        return is_fit_at(s, 0, luma);
+        is_fit_at(s, 0, luma)
+    } else {
+        is_off(luma)
     }
-    is_off(luma)
 }
 
 fn is_chroma_ruled(s: Switches, cb: Six, cr: Six) -> bool
     ensures { Tells (ChromaRuled s (says cb) (says cr)) result }
 {
     if s.chroma {
-        if !is_fit_at(s, 1, cb) {
-            return false;
-        }
-        if !is_fit_at(s, 2, cr) {
-            return false;
-        }
-        return is_shared(cb, cr);
+        is_fit_at(s, 1, cb) && is_fit_at(s, 2, cr) && is_shared(cb, cr)
+    } else {
+        is_off(cb) && is_off(cr)
     }
-    if !is_off(cb) {
-        return false;
-    }
-    is_off(cr)
 }
 
-fn is_ruled(s: Switches, luma: Six, cb: Six, cr: Six) -> bool
-    ensures { Tells (Valid s (set_of luma cb cr)) result }
+fn is_ruled(s: Switches, b: SetBytes) -> bool
+    ensures { Tells (Valid s (set_of b)) result }
 {
-    if !is_luma_ruled(s, luma) {
-        return false;
-    }
-    is_chroma_ruled(s, cb, cr)
+    is_luma_ruled(s, b.luma) && is_chroma_ruled(s, b.cb, b.cr)
 }
 
 // Whether the set is within the rules.
 pub fn is_valid(s: Switches, q: CtuSet) -> bool
     ensures { Tells (Valid s q) result }
 {
-    let luma = q.luma;
-    let cb = q.cb;
-    let cr = q.cr;
-    let l = bytes_of(luma);
-    let b = bytes_of(cb);
-    let r = bytes_of(cr);
-    is_ruled(s, l, b, r)
+    is_ruled(s, q.into())
 }
 
 // ---- stored
@@ -324,27 +243,23 @@ fn put_six(table: &mut [u8], at: usize, s: Six)
     requires { at + 6 ≤ length table.old }
     ensures { table.new ≡ put table.old at (list_of s) }
 {
-    table[at] = s.kind;
-    table[at + 1] = s.place;
-    table[at + 2] = s.o1;
-    table[at + 3] = s.o2;
-    table[at + 4] = s.o3;
-    table[at + 5] = s.o4;
+    let o = s.offsets;
+    table[at..at + 6].copy_from_slice(&[s.kind, s.place, o.o1, o.o2, o.o3, o.o4]);
 }
 
 // The bytes of a set, from a place on.
+#[tactic(auto, using(crate::proofs::Lists::put_set))]
 fn put_bytes(bytes: &mut [u8], at: usize, q: CtuSet)
     requires { at + set_size ≤ length bytes.old }
     ensures { bytes.new ≡ put bytes.old at (encode q) }
 {
-    let luma = q.luma;
-    let cb = q.cb;
-    let cr = q.cr;
-    put_six(bytes, at, bytes_of(luma));
-    put_six(bytes, at + 6, bytes_of(cb));
-    put_six(bytes, at + 12, bytes_of(cr));
+    let b = SetBytes::from(q);
+    put_six(bytes, at, b.luma);
+    put_six(bytes, at + 6, b.cb);
+    put_six(bytes, at + 12, b.cr);
 }
 
+#[tactic(auto, using(crate::proofs::Lists::put_entered))]
 pub fn put_set(table: &mut [u8], k: usize, q: CtuSet)
     requires { entry_size * k + entry_size ≤ length table.old }
     ensures { table.new ≡ entered table.old k q }
@@ -358,74 +273,67 @@ fn get_six(table: &[u8], at: usize) -> Six
     requires { at + 6 ≤ length table.now }
     ensures { list_of result ≡ take 6 (drop at table.now) }
 {
-    let kind = table[at];
-    let place = table[at + 1];
-    let o1 = table[at + 2];
-    let o2 = table[at + 3];
-    let o3 = table[at + 4];
-    let o4 = table[at + 5];
+    let &[kind, place, o1, o2, o3, o4] = table[at..].first_chunk::<6>().unwrap();
     Six {
         kind,
         place,
-        o1,
-        o2,
-        o3,
-        o4,
+        offsets: Four { o1, o2, o3, o4 },
+    }
+}
+
+// The bytes of a set, from a place on.
+fn get_bytes(bytes: &[u8], at: usize) -> SetBytes
+    requires { at + set_size ≤ length bytes.now }
+    ensures luma { list_of result.luma ≡ take 6 (drop at bytes.now) }
+    ensures cb { list_of result.cb ≡ take 6 (drop (at + 6) bytes.now) }
+    ensures cr { list_of result.cr ≡ take 6 (drop (at + 12) bytes.now) }
+{
+    SetBytes {
+        luma: get_six(bytes, at),
+        cb: get_six(bytes, at + 6),
+        cr: get_six(bytes, at + 12),
     }
 }
 
 // Whether some component is encoded so: the type is one of three, and Off has no byte but 0.
 fn is_code(s: Six) -> bool
-    ensures { Tells (list_of s ≡ encode_offsets (says s)) result }
+    ensures { Tells (Encodes (list_of s)) result }
 {
-    let o = offsets_of(s);
-    let t = bytes_of(o);
-    same_bytes(s, t)
+    s == Six::from(Offsets::from(s))
 }
 
-fn are_codes(luma: Six, cb: Six, cr: Six) -> bool
-    ensures { Tells (list_of luma ++ (list_of cb ++ list_of cr) ≡ encode (set_of luma cb cr)) result }
+fn are_codes(b: SetBytes) -> bool
+    ensures { Tells (Codes b) result }
 {
-    if !is_code(luma) {
-        return false;
-    }
-    if !is_code(cb) {
-        return false;
-    }
-    is_code(cr)
+    is_code(b.luma) && is_code(b.cb) && is_code(b.cr)
 }
 
-pub fn get_set(s: Switches, table: &[u8], k: usize) -> Found
+// The set of an entry; none where its bytes encode no set within the rules.
+#[tactic(auto, using(crate::proofs::Finding::no_code, crate::proofs::Finding::not_ruled, crate::proofs::Finding::holds))]
+pub fn get_set(s: Switches, table: &[u8], k: usize) -> Option<CtuSet>
     requires { entry_size * k + entry_size ≤ length table.now }
     ensures { Finds s table.now k result }
 {
-    let at = ENTRY_BYTES * k;
-    let l = get_six(table, at);
-    let b = get_six(table, at + 6);
-    let r = get_six(table, at + 12);
-    if !are_codes(l, b, r) {
-        return Found::Bad;
+    let b = get_bytes(table, ENTRY_BYTES * k);
+    if are_codes(b) && is_ruled(s, b) {
+        Some(b.into())
+    } else {
+        None
     }
-    if !is_ruled(s, l, b, r) {
-        return Found::Bad;
-    }
-    let luma = offsets_of(l);
-    let cb = offsets_of(b);
-    let cr = offsets_of(r);
-    Found::Set(CtuSet { luma, cb, cr })
 }
 
 // The set of one component of an entry, as its bytes say it: bytes that encode nothing say something
 // or other.
+#[tactic(auto, using(crate::proofs::Finding::luma_says, crate::proofs::Finding::cb_says, crate::proofs::Finding::cr_says))]
 pub fn offsets_at(table: &[u8], k: usize, component: u8) -> Offsets
     requires { entry_size * k + entry_size ≤ length table.now }
     ensures { result ≡ offsets_at table.now component k }
 {
-    let at = ENTRY_BYTES * k;
+    let b = get_bytes(table, ENTRY_BYTES * k);
     match component {
-        0 => offsets_of(get_six(table, at)),
-        1 => offsets_of(get_six(table, at + 6)),
-        _ => offsets_of(get_six(table, at + 12)),
+        0 => b.luma.into(),
+        1 => b.cb.into(),
+        _ => b.cr.into(),
     }
 }
 
@@ -436,14 +344,16 @@ fn offsets_said(s: Six) -> Offsets
     ensures { Stands (list_of s) result }
 {
     if is_code(s) {
-        return offsets_of(s);
+        return s.into();
     }
     Offsets::Band {
         position: 255,
-        o1: 0,
-        o2: 0,
-        o3: 0,
-        o4: 0,
+        offsets: Four {
+            o1: 0,
+            o2: 0,
+            o3: 0,
+            o4: 0,
+        },
     }
 }
 
@@ -451,13 +361,16 @@ fn offsets_said(s: Six) -> Offsets
 pub fn set_said(e: &[u8; SET_BYTES]) -> CtuSet
     ensures { StandsFor e.now result }
 {
-    let luma = offsets_said(get_six(e, 0));
-    let cb = offsets_said(get_six(e, 6));
-    let cr = offsets_said(get_six(e, 12));
-    CtuSet { luma, cb, cr }
+    let b = get_bytes(e, 0);
+    CtuSet {
+        luma: offsets_said(b.luma),
+        cb: offsets_said(b.cb),
+        cr: offsets_said(b.cr),
+    }
 }
 
 // And back: the bytes that encode a set.
+#[tactic(auto, using(crate::proofs::Lists::put_alone))]
 pub fn say_set(e: &mut [u8; SET_BYTES], q: CtuSet)
     ensures e_after { e.new ≡ encode q }
     ensures e_len { length e.new ≡ set_size }

@@ -1,5 +1,7 @@
 pub mod Bits
 pub mod Packed
 pub mod Loop
-pub mod Truncated
+pub mod Ones
 pub mod Signed
+pub mod Rows
+pub mod Parts

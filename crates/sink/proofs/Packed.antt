@@ -6,29 +6,12 @@ use Prim.Native.Nat.{ℕ, zero, suc, ◌+◌, ◌-◌, ◌*◌, ◌/◌, ◌%◌
 use native.Mathlib.Nat.{add-zero, not-suc-le-zero, le_of_suc-le-suc, mod-eq_of_lt, lt_of_le_of_lt, div-mul-le_self}
 use native.Mathlib.Omega.{arith}
 use lib.ListN.{length, take, drop, get_or, set, length-append, length-set}
-use lib.Seq.{take-append-le, take-append-add, drop-append-add, drop-drop, drop_at, take_at, length-take-le}
+use lib.Seq.{take-append-le, take-append-add, drop_at, take_at, length-take-le}
 use Rattle.standard.specs.Bins.{fixed_length, bits_of, bins_of, number, bytes_of, packed}
 use Rattle.standard.proofs.Bits.{number_nil, number_lt, number_add, number_high, number_take, number_fixed}
 use Rattle.standard.proofs.Longest.{fixed_length_lem}
-use Rattle.standard.proofs.Packed.{bits_length, bytes_length, packed_back}
 use Rattle.sink.specs.Puts.{Room, placed, Puts}
 use Rattle.sink.proofs.Bits.{shl_shr_part}
-
--- ---- packed bins
-
--- what is packed over fewer bins does not see them
-pub packed_packed : (w v : List Bool) (l : List ℕ) → length v ≤ length w → packed w (packed v l) ≡ packed w l
-unfolding packed
-packed_packed w v l h =
-    let n : ℕ = (length w + 7) / 8 in
-    let m : ℕ = (length v + 7) / 8 in
-    let e : n ≡ length (bytes_of m v) + (n - m) = omega (arith, bytes_length m v) in
-    let s : m + (n - m) ≡ n = omega arith in
-    ap (λ (r : List ℕ). bytes_of n w ++ r)
-    (ap (λ (k : ℕ). drop k (bytes_of m v ++ drop m l)) e
-    ∙ drop-append-add (bytes_of m v) (drop m l) (n - m)
-    ∙ drop-drop (n - m) m l
-    ∙ ap (λ (k : ℕ). drop k l) s)
 
 -- ---- one store
 
@@ -101,25 +84,6 @@ unfolding placed
 placed_some at [] l h = absurd (not-suc-le-zero h)
 placed_some at (b ∷ w) l h = refl
 
-bins_length : (l : List ℕ) (at : ℕ) → at ≤ 8 * length l → length (bins_of l at) ≡ at
-unfolding bins_of
-bins_length l at h = length-take-le at (bits_of l) (omega (arith, bits_length l))
-
--- over bins that are packed, more are packed as after them
-packed_more : (w b : List Bool) (l : List ℕ) (n : ℕ) → length w ≡ n → packed (bins_of (packed w l) n ++ b) (packed w l) ≡ packed (w ++ b) l
-packed_more w b l n e =
-    ap (λ (r : List Bool). packed (r ++ b) (packed w l)) (ap (bins_of (packed w l)) (sym e) ∙ packed_back w l)
-    ∙ packed_packed (w ++ b) w l (omega (arith, length-append w b))
-
-placed_then : (at : ℕ) (a b : List Bool) (l : List ℕ) → at ≤ 8 * length l → placed (at + length a) b (placed at a l) ≡ placed at (a ++ b) l
-unfolding placed
-placed_then at [] b l h = ap (λ (n : ℕ). placed n b l) (add-zero at)
-placed_then at (x ∷ a) [] l h = ap (λ (w : List Bool). packed (bins_of l at ++ (x ∷ w)) l) (sym (append-nil a))
-placed_then at (x ∷ a) (y ∷ b) l h =
-    let w : List Bool = bins_of l at ++ (x ∷ a) in
-    packed_more w (y ∷ b) l (at + length (x ∷ a)) (length-append (bins_of l at) (x ∷ a) ∙ ap (λ (n : ℕ). n + length (x ∷ a)) (bins_length l at h))
-    ∙ ap (λ (v : List Bool). packed v l) (append_assoc (bins_of l at) (x ∷ a) (y ∷ b))
-
 -- ---- puts
 
 pub part_puts : (l : List ℕ) (at k v : ℕ) (exit : List ℕ) (next : ℕ) → at % 8 + k ≤ 8 → 0 < k → at + k ≤ 8 * length l → ((i : ℕ) → get_or l i 0 < 256)
@@ -138,26 +102,6 @@ part_puts l at k v exit next r p f b e n =
       bytes = λ room. s ∙ sym (placed_some at (fixed_length k v) l (omega (arith, fixed_length_lem k v)));
     }
 
-pub puts_none : (at : ℕ) (l : List ℕ) → Puts at [] l l at
-unfolding placed
-puts_none at l = record { moved = sym (add-zero at); long = refl; bytes = λ room. refl }
-
-pub room_first : {at : ℕ} (a b : List Bool) {l : List ℕ} → Room at (length (a ++ b)) l → Room at (length a) l
-room_first a b r = record { fits = omega (arith, r.fits, length-append a b); small = omega (arith, r.small, length-append a b) }
-
-pub room_rest : {at n : ℕ} (a b : List Bool) {l0 l1 : List ℕ} → Room at (length (a ++ b)) l0 → Puts at a l0 l1 n → Room n (length b) l1
-room_rest a b r p = record { fits = omega (arith, r.fits, p.moved, p.long, length-append a b); small = omega (arith, r.small, p.moved, length-append a b) }
-
-pub puts_then : {at : ℕ} {a b : List Bool} {l0 l1 l2 : List ℕ} {n1 n2 : ℕ} → Puts at a l0 l1 n1 → Puts n1 b l1 l2 n2 → Puts at (a ++ b) l0 l2 n2
-puts_then {at} {a} {b} {l0} {l1} {l2} {n1} {n2} p q = record {
-  moved = omega (arith, p.moved, q.moved, length-append a b);
-  long = q.long ∙ p.long;
-  bytes = λ r.
-      q.bytes (room_rest a b r p)
-      ∙ ap₂ (λ (n : ℕ) (l : List ℕ). placed n b l) p.moved (p.bytes (room_first a b r))
-      ∙ placed_then at a b l0 (omega (arith, r.fits));
-}
-
 -- the bins are all that was put
 placed_first : (a : List Bool) (l : List ℕ) → placed 0 a l ≡ packed a l
 unfolding placed packed bytes_of bins_of
@@ -170,13 +114,6 @@ puts_packed {a} {l0} r p = p.bytes r ∙ placed_first a l0
 -- what was put determines the bytes and the place
 pub puts_one : {at : ℕ} {a : List Bool} {l0 l1 l2 : List ℕ} {n1 n2 : ℕ} → Room at (length a) l0 → Puts at a l0 l1 n1 → Puts at a l0 l2 n2 → (l1 ≡ l2) × (n1 ≡ n2)
 puts_one r p q = (p.bytes r ∙ sym (q.bytes r), p.moved ∙ sym q.moved)
-
--- the same bins, and the same room
-pub puts_as : {at next : ℕ} {a b : List Bool} {l0 l1 : List ℕ} → a ≡ b → Puts at a l0 l1 next → Puts at b l0 l1 next
-puts_as {at} {next} {l0 = l0} {l1 = l1} e p = subst (λ (w : List Bool). Puts at w l0 l1 next) e p
-
-pub room_as : {at a b : ℕ} {l : List ℕ} → a ≡ b → Room at b l → Room at a l
-room_as {at} {l = l} e r = subst (λ (n : ℕ). Room at n l) (sym e) r
 
 -- the byte as it is computed
 pub part_value : (x r k v : ℕ) → x < 256 → k ≤ r → r ≤ 8 → x / 2 ^ r * 2 ^ r % 2 ^ 32 + v * 2 ^ (32 - k) % 2 ^ 32 / 2 ^ (32 - r) ≡ x / 2 ^ r * 2 ^ r + v % 2 ^ k * 2 ^ (r - k)

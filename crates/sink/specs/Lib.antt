@@ -1,1 +1,3 @@
 pub mod Puts
+pub mod Sinks
+pub mod Laws

@@ -1,19 +1,12 @@
 -- The bins that are written for a set, whether or not it is within the rules: none, a merge or the full form.
 use Rattle.std.specs.Prelude.{◌≡◌, Bool, true, false, List, [], ◌∷◌, ◌++◌}
-use Rattle.std.specs.Prelude.{Option, Some as some, None as none}
+use Rattle.std.specs.Prelude.{Option, Some as some}
 use Rattle.standard.specs.declared.CtuSet.{CtuSet}
 use Rattle.standard.specs.declared.Switches.{Switches}
 use Rattle.standard.specs.Bins.{full}
 use Rattle.standard.specs.Means.{any_on, not_taken, Means}
-use Rattle.writer.specs.declared.Beside.{Beside}
-use Rattle.writer.specs.declared.Beside.TheVariants.{Nothing, Set}
 use Rattle.writer.specs.declared.Shape.{Shape}
 use Rattle.writer.specs.declared.Shape.TheVariants.{Empty, Left, Up, Full}
-
--- a neighbour as the code has it: its set, where a merge may reach it
-abbrev pub beside_of : Beside → Option CtuSet
-beside_of Nothing = none
-beside_of (Set q) = some q
 
 -- some bins mean the set
 abbrev pub Meant : Switches → Option CtuSet → Option CtuSet → CtuSet → Type 0

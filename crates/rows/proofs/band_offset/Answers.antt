@@ -16,10 +16,10 @@ sole : (c : After-within-d) →
     Sole (value_of x.o (cond (ltb x.k 4) (x.k + 1) 0)) c.within-a.result c.within-b.result c.within-c.result c.within-d.result
 sole c =
     let x = c.args in
-    let f1 = sfits_of {w = w16} {z = x.o.o1} (omega (arith, c.struct_told-1.given)) in
-    let f2 = sfits_of {w = w16} {z = x.o.o2} (omega (arith, c.struct_told-2-1.given)) in
-    let f3 = sfits_of {w = w16} {z = x.o.o3} (omega (arith, c.struct_told-3-1.given)) in
-    let f4 = sfits_of {w = w16} {z = x.o.o4} (omega (arith, c.struct_told-4-1.given)) in
+    let f1 = sfits_of {w = w16} {z = x.o.o1} (omega arith) in
+    let f2 = sfits_of {w = w16} {z = x.o.o2} (omega arith) in
+    let f3 = sfits_of {w = w16} {z = x.o.o3} (omega arith) in
+    let f4 = sfits_of {w = w16} {z = x.o.o4} (omega arith) in
     band_sole x.o f1 f2 f3 f4 x.k
     (within_back f1 c.within-a.ensures) (within_back f2 c.within-b.ensures) (within_back f3 c.within-c.ensures) (within_back f4 c.within-d.ensures)
 

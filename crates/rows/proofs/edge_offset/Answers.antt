@@ -15,10 +15,10 @@ sole : (c : After-only-d) →
     Sole (value_of x.o (edge_idx (pos 2 +ℤ x.n))) c.only-a.result c.only-b.result c.only-c.result c.only-d.result
 sole c =
     let x = c.args in
-    let f1 = sfits_of {w = w16} {z = x.o.o1} (omega (arith, c.struct_told-1.given)) in
-    let f2 = sfits_of {w = w16} {z = x.o.o2} (omega (arith, c.struct_told-2-1.given)) in
-    let f3 = sfits_of {w = w16} {z = x.o.o3} (omega (arith, c.struct_told-3-1.given)) in
-    let f4 = sfits_of {w = w16} {z = x.o.o4} (omega (arith, c.struct_told-4-1.given)) in
+    let f1 = sfits_of {w = w16} {z = x.o.o1} (omega arith) in
+    let f2 = sfits_of {w = w16} {z = x.o.o2} (omega arith) in
+    let f3 = sfits_of {w = w16} {z = x.o.o3} (omega arith) in
+    let f4 = sfits_of {w = w16} {z = x.o.o4} (omega arith) in
     let h = c.ranges.n in
     edge_sole x.o f1 f2 f3 f4 x.n
     (only_back h f1 c.only-a.ensures) (only_back h f2 c.only-b.ensures) (only_back h f3 c.only-c.ensures) (only_back h f4 c.only-d.ensures)

@@ -1,16 +1,41 @@
--- The bins of the shape that is chosen are written; they fit exactly if their bytes are no more than those lent.
+-- The bins of the shape that is chosen are counted, and then put; they fit exactly if their bytes are no more than those lent.
+use borrow.Author.Rules.{rules}
+use mathlib.Core.Path.{◌≡◌}
 use native.Mathlib.Omega.{arith}
+use Rattle.standard.specs.Bins.{packed}
 use Rattle.sink.proofs.Packed.{puts_packed}
-use Rattle.writer.specs.Forms.{beside_of, shape_bins}
+use Rattle.writer.specs.Forms.{shape_bins}
+use Rattle.writer.proofs.Lengths.{shape_length}
 use Rattle.writer.proofs.write_set.Goals as goal
+
+pub shaped-requires : goal.shaped-requires
+shaped-requires c =
+    let a = c.args in
+    omega (arith, shape_length a.s a.left a.up a.q c.choose-shape.result)
+
+pub overflow_add-n : goal.overflow_add-n
+overflow_add-n c =
+    let a = c.args in
+    omega (arith, shape_length a.s a.left a.up a.q c.choose-shape.result, c.shaped.ensures)
+
+pub shaped-requires-2 : goal.shaped-requires-2
+shaped-requires-2 c =
+    let a = c.args in
+    let n = c.shaped.ensures in
+    record {
+      fits = omega (arith, n, c.if-n-out.false);
+      small = omega (arith, shape_length a.s a.left a.up a.q c.choose-shape.result);
+    }
 
 pub returns : goal.returns
 returns c =
     let a = c.args in
-    let chose = c.choose-shape in
-    let n = c.bins_of_shape-n.ensures.0 in
+    let n = c.shaped.ensures in
+    let put : c.shaped-2.new.to.out.now ≡ packed (shape_bins a.s a.left a.up a.q c.choose-shape.result) a.out.now =
+    puts_packed (record { fits = omega (arith, n, c.if-n-out.false); small = omega (arith, shape_length a.s a.left a.up a.q c.choose-shape.result) }) c.shaped-2.ensures.puts in
+    let same = c.shaped-2.ensures.same_bytes in
     record {
-      shape = chose.result;
-      choice = chose.ensures;
-      writes = (omega (arith, n, c.if-n-out.false), n, puts_packed {a = shape_bins a.s (beside_of a.left) (beside_of a.up) a.q chose.result} (record { fits = omega (arith, n, c.if-n-out.false); small = omega (arith, n, c.bins_of_shape-n.ensures.1) }) c.put_shape.ensures);
+      shape = c.choose-shape.result;
+      choice = c.choose-shape.ensures;
+      writes = (omega (arith, n, c.if-n-out.false), omega (arith, n), search rules);
     }

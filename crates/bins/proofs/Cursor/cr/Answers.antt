@@ -5,8 +5,8 @@ use Rattle.bins.proofs.Cursor.cr.Goals as goal
 
 pub returns-in-Off : goal.returns-in-Off
 returns-in-Off c =
-    let off = off_after c.args.m c.in-Off.is in
-    nothing_taken _ c.requires.within off.0 off.1
+    let off = off_after c.args.m.value c.in-Off.is in
+    nothing_taken _ off.0 off.1
 
 pub returns-in-Band : goal.returns-in-Band
 returns-in-Band c = takes_as (band_after _ c.in-Band.is) c.band.ensures

@@ -1,24 +1,19 @@
 -- `Cursor::edge_offsets` meets its contract: the signs are known.
-use mathlib.Core.Path.{ap, ◌∙◌}
+use mathlib.Core.Path.{◌∙◌}
 use mir.Syntax.{w8}
+use Rattle.standard.specs.Sets.{four}
 use Rattle.standard.proofs.Elements.{magnitudes_code}
 use Rattle.standard.proofs.Components.{edge_signed, edge_signed_code}
-use Rattle.bins.specs.Takes.{took}
-use Rattle.bins.specs.Views.{four, magnitudes_taken}
-use Rattle.bins.proofs.ByReader.{Reads, takes}
+use Rattle.bins.proofs.ByReader.{takes}
 use Rattle.bins.proofs.Readers.{edge_offsets_read}
-use Rattle.bins.proofs.Steps.{known, read_as, valued, then_cut, mapped_took}
+use Rattle.bins.proofs.Steps.{known, missed, read_as, valued, then_cut, mapped_took}
 use Rattle.standard.proofs.Signed.{backed}
 use Rattle.bins.proofs.Cursor.edge_offsets.Goals as goal
-use Rattle.bins.proofs.Cursor.edge_offsets.Goals.{In-Value}
 
-read : (c : In-Value)
-    → let a = c.args in
-    Reads a.bytes.now a.self (magnitudes_code a.m).read (took (four c.in-Value.f) c.in-Value.next)
-read c = known (magnitudes_code _) c.magnitudes.ensures (ap magnitudes_taken c.in-Value.is)
-
-pub returns-in_default : goal.returns-in_default
-returns-in_default c = takes (edge_signed_code _) (read_as (edge_offsets_read _) (then_cut _ (known (magnitudes_code _) c.magnitudes.ensures (ap magnitudes_taken c.in_default.is))))
+pub returns-in_err-f : goal.returns-in_err-f
+returns-in_err-f c =
+    missed c.from_residual.ensures
+    (takes (edge_signed_code _) (read_as (edge_offsets_read _) (then_cut _ (known (magnitudes_code _) c.magnitudes.ensures c.in_err-f.was))))
 
 pub returns : goal.returns
 returns c =
@@ -26,4 +21,6 @@ returns c =
     let e2 = backed w8 _ c.offset-2.type_inv ∙ c.offset-2.ensures in
     let e3 = backed w8 _ c.offset-3.type_inv ∙ c.offset-3.ensures in
     let e4 = backed w8 _ c.offset-4.type_inv ∙ c.offset-4.ensures in
-    takes (edge_signed_code _) (valued (read_as (edge_offsets_read _) (mapped_took edge_signed (read (goal.at.returns c).In-Value))) (λ n. (e1 n, (e2 n, (e3 n, e4 n)))))
+    takes (edge_signed_code _)
+    (valued (read_as (edge_offsets_read _) (mapped_took edge_signed (known (magnitudes_code _) c.magnitudes.ensures c.in_ok-f.was)))
+    (λ n. four (e1 n) (e2 n) (e3 n) (e4 n)))

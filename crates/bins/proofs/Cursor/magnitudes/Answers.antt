@@ -1,29 +1,30 @@
 -- `Cursor::magnitudes` meets its contract: four codes in turn.
-use mathlib.Core.Path.{ap}
-use Rattle.standard.proofs.Elements.{truncated_code, magnitudes_code}
-use Rattle.bins.proofs.ByReader.{takes}
-use Rattle.bins.proofs.Readers.{magnitudes_read}
-use Rattle.bins.specs.Views.{number_taken}
-use Rattle.bins.proofs.Steps.{known, read_as, then_took, then_cut}
+use Rattle.standard.proofs.Elements.{truncated_code}
+use Rattle.bins.proofs.Fours.{cut_first, cut_second, cut_third, cut_fourth, took_four}
 use Rattle.bins.proofs.Cursor.magnitudes.Goals as goal
 
-pub returns-in_default : goal.returns-in_default
-returns-in_default c = takes (magnitudes_code _) (read_as (magnitudes_read _) (then_cut _ (known (truncated_code _) c.magnitude.ensures (ap number_taken c.in_default.is))))
+pub returns-in_err-o1 : goal.returns-in_err-o1
+returns-in_err-o1 c = let k = truncated_code c.args.m.value in cut_first k k k k c.magnitude.ensures c.in_err-o1.was c.from_residual.ensures
 
-pub returns-in_default-magnitude : goal.returns-in_default-magnitude
-returns-in_default-magnitude c =
-    let h1 = known (truncated_code _) c.magnitude.ensures (ap number_taken c.in-Value.is) in
-    takes (magnitudes_code _) (read_as (magnitudes_read _) (then_took _ h1 (then_cut _ (known (truncated_code _) c.magnitude-2.ensures (ap number_taken c.in_default-magnitude.is)))))
+pub returns-in_err-o2 : goal.returns-in_err-o2
+returns-in_err-o2 c =
+    let k = truncated_code c.args.m.value in
+    cut_second k k k k c.magnitude.ensures c.in_ok-o1.was c.magnitude-2.ensures c.in_err-o2.was c.from_residual-in_err-o2.ensures
 
-pub returns-in_default-magnitude-2 : goal.returns-in_default-magnitude-2
-returns-in_default-magnitude-2 c =
-    let h1 = known (truncated_code _) c.magnitude.ensures (ap number_taken c.in-Value.is) in
-    let h2 = known (truncated_code _) c.magnitude-2.ensures (ap number_taken c.in-Value-magnitude.is) in
-    takes (magnitudes_code _) (read_as (magnitudes_read _) (then_took _ h1 (then_took _ h2 (then_cut _ (known (truncated_code _) c.magnitude-3.ensures (ap number_taken c.in_default-magnitude-2.is))))))
+pub returns-in_err-o3 : goal.returns-in_err-o3
+returns-in_err-o3 c =
+    let k = truncated_code c.args.m.value in
+    cut_third k k k k c.magnitude.ensures c.in_ok-o1.was c.magnitude-2.ensures c.in_ok-o2.was c.magnitude-3.ensures
+    c.in_err-o3.was c.from_residual-in_err-o3.ensures
 
-pub returns-in_default-magnitude-3 : goal.returns-in_default-magnitude-3
-returns-in_default-magnitude-3 c =
-    let h1 = known (truncated_code _) c.magnitude.ensures (ap number_taken c.in-Value.is) in
-    let h2 = known (truncated_code _) c.magnitude-2.ensures (ap number_taken c.in-Value-magnitude.is) in
-    let h3 = known (truncated_code _) c.magnitude-3.ensures (ap number_taken c.in-Value-magnitude-2.is) in
-    takes (magnitudes_code _) (read_as (magnitudes_read _) (then_took _ h1 (then_took _ h2 (then_took _ h3 (then_cut _ (known (truncated_code _) c.magnitude-4.ensures (ap number_taken c.in_default-magnitude-3.is)))))))
+pub returns-in_err-o4 : goal.returns-in_err-o4
+returns-in_err-o4 c =
+    let k = truncated_code c.args.m.value in
+    cut_fourth k k k k c.magnitude.ensures c.in_ok-o1.was c.magnitude-2.ensures c.in_ok-o2.was c.magnitude-3.ensures c.in_ok-o3.was
+    c.magnitude-4.ensures c.in_err-o4.was c.from_residual-in_err-o4.ensures
+
+pub returns : goal.returns
+returns c =
+    let k = truncated_code c.args.m.value in
+    took_four k k k k c.magnitude.ensures c.in_ok-o1.was c.magnitude-2.ensures c.in_ok-o2.was c.magnitude-3.ensures c.in_ok-o3.was
+    c.magnitude-4.ensures c.in_ok-o4.was

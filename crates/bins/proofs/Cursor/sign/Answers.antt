@@ -1,27 +1,27 @@
 -- `Cursor::sign` meets its contract: a magnitude other than 0 has one bin.
-use mathlib.Core.Path.{ap, ◌∙◌}
+use mathlib.Core.Path.{◌∙◌}
 use mathlib.Core.Bool.{cond}
 use lib.IntN.{pos, neg_ℤ}
 use mir.Syntax.{w8}
 use Rattle.standard.proofs.Codes.{bit}
 use Rattle.standard.proofs.Elements.{sign_code}
-use Rattle.bins.specs.Views.{flag_taken}
 use Rattle.bins.proofs.ByReader.{takes}
 use Rattle.bins.proofs.Readers.{sign_none, sign_some}
-use Rattle.bins.proofs.Steps.{made, read_as, known, valued, then_cut, mapped_took}
+use Rattle.bins.proofs.Steps.{made, read_as, known, missed, valued, then_cut, mapped_took}
 use Rattle.standard.proofs.Signed.{backed}
 use Rattle.bins.proofs.Cursor.sign.Goals as goal
 
 pub returns-then-v-eq0 : goal.returns-then-v-eq0
-returns-then-v-eq0 c = takes (sign_code _) (made _ c.requires.within (λ l. rw c.if-v-eq0.true (sign_none l)))
+returns-then-v-eq0 c = takes (sign_code _) (made _ (λ l. rw c.if-v-eq0.true (sign_none l)))
 
-pub returns-in_default : goal.returns-in_default
-returns-in_default c =
-    takes (sign_code _) (read_as (λ l. sign_some _ l c.if-v-eq0.false) (then_cut _ (known bit c.flag.ensures (ap flag_taken c.in_default.is))))
+pub returns-in_err-negative : goal.returns-in_err-negative
+returns-in_err-negative c =
+    missed c.from_residual.ensures
+    (takes (sign_code _) (read_as (λ l. sign_some _ l c.if-v-eq0.false) (then_cut _ (known bit c.flag.ensures c.in_err-negative.was))))
 
 pub returns : goal.returns
 returns c =
     let v = c.args.v in
     takes (sign_code _) (read_as (λ l. sign_some _ l c.if-v-eq0.false)
-    (valued (mapped_took (λ b. cond b (neg_ℤ (pos v)) (pos v)) (known bit c.flag.ensures (ap flag_taken c.in-Value.is)))
+    (valued (mapped_took (λ b. cond b (neg_ℤ (pos v)) (pos v)) (known bit c.flag.ensures c.in_ok-negative.was))
     (backed w8 _ c.offset.type_inv ∙ c.offset.ensures)))

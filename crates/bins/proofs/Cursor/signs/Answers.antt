@@ -1,55 +1,53 @@
 -- `Cursor::signs` meets its contract: four codes in turn.
-use mathlib.Core.Path.{ap}
 use native.Mathlib.Omega.{arith}
+use Rattle.standard.specs.Sets.{four}
 use Rattle.standard.specs.Bins.{signs}
-use Rattle.standard.proofs.Elements.{sign_code, signs_code}
-use Rattle.bins.proofs.ByReader.{takes}
-use Rattle.bins.proofs.Readers.{signs_read}
-use Rattle.bins.proofs.SmallNumbers.{four_back}
-use Rattle.bins.specs.Views.{offset_taken}
-use Rattle.bins.proofs.Steps.{known, read_as, then_took, then_cut, mapped_took, valued, value_holds}
+use Rattle.standard.proofs.Elements.{sign_code}
+use Rattle.bins.proofs.Fours.{cut_first, cut_second, cut_third, cut_fourth, took_four}
+use Rattle.bins.proofs.SmallNumbers.{byte_back}
+use Rattle.bins.proofs.Steps.{known_taken, valued_taken}
 use Rattle.bins.proofs.Cursor.signs.Goals as goal
 
-pub returns-in_default : goal.returns-in_default
+pub returns-in_err-o1 : goal.returns-in_err-o1
 unfolding signs
-returns-in_default c = takes (signs_code _) (read_as (signs_read _) (then_cut _ (known (sign_code _) c.sign.ensures (ap offset_taken c.in_default.is))))
+returns-in_err-o1 c =
+    let f = c.args.f in
+    cut_first (sign_code f.o1) (sign_code f.o2) (sign_code f.o3) (sign_code f.o4) c.sign.ensures c.in_err-o1.was c.from_residual.ensures
 
-pub returns-in_default-sign : goal.returns-in_default-sign
+pub returns-in_err-o2 : goal.returns-in_err-o2
 unfolding signs
-returns-in_default-sign c =
-    let h1 = known (sign_code _) c.sign.ensures (ap offset_taken c.in-Value.is) in
-    takes (signs_code _) (read_as (signs_read _) (then_took _ h1 (then_cut _ (known (sign_code _) c.sign-2.ensures (ap offset_taken c.in_default-sign.is)))))
+returns-in_err-o2 c =
+    let f = c.args.f in
+    cut_second (sign_code f.o1) (sign_code f.o2) (sign_code f.o3) (sign_code f.o4) c.sign.ensures c.in_ok-o1.was c.sign-2.ensures
+    c.in_err-o2.was c.from_residual-in_err-o2.ensures
 
-pub returns-in_default-sign-2 : goal.returns-in_default-sign-2
+pub returns-in_err-o3 : goal.returns-in_err-o3
 unfolding signs
-returns-in_default-sign-2 c =
-    let h1 = known (sign_code _) c.sign.ensures (ap offset_taken c.in-Value.is) in
-    let h2 = known (sign_code _) c.sign-2.ensures (ap offset_taken c.in-Value-sign.is) in
-    takes (signs_code _) (read_as (signs_read _) (then_took _ h1 (then_took _ h2 (then_cut _ (known (sign_code _) c.sign-3.ensures (ap offset_taken c.in_default-sign-2.is))))))
+returns-in_err-o3 c =
+    let f = c.args.f in
+    cut_third (sign_code f.o1) (sign_code f.o2) (sign_code f.o3) (sign_code f.o4) c.sign.ensures c.in_ok-o1.was c.sign-2.ensures c.in_ok-o2.was
+    c.sign-3.ensures c.in_err-o3.was c.from_residual-in_err-o3.ensures
 
-pub returns-in_default-sign-3 : goal.returns-in_default-sign-3
+pub returns-in_err-o4 : goal.returns-in_err-o4
 unfolding signs
-returns-in_default-sign-3 c =
-    let h1 = known (sign_code _) c.sign.ensures (ap offset_taken c.in-Value.is) in
-    let h2 = known (sign_code _) c.sign-2.ensures (ap offset_taken c.in-Value-sign.is) in
-    let h3 = known (sign_code _) c.sign-3.ensures (ap offset_taken c.in-Value-sign-2.is) in
-    takes (signs_code _) (read_as (signs_read _) (then_took _ h1 (then_took _ h2 (then_took _ h3 (then_cut _ (known (sign_code _) c.sign-4.ensures (ap offset_taken c.in_default-sign-3.is)))))))
+returns-in_err-o4 c =
+    let f = c.args.f in
+    cut_fourth (sign_code f.o1) (sign_code f.o2) (sign_code f.o3) (sign_code f.o4) c.sign.ensures c.in_ok-o1.was c.sign-2.ensures c.in_ok-o2.was
+    c.sign-3.ensures c.in_ok-o3.was c.sign-4.ensures c.in_err-o4.was c.from_residual-in_err-o4.ensures
 
 pub returns : goal.returns
 unfolding signs
 returns c =
-    let h1 = known (sign_code _) c.sign.ensures (ap offset_taken c.in-Value.is) in
-    let h2 = known (sign_code _) c.sign-2.ensures (ap offset_taken c.in-Value-sign.is) in
-    let h3 = known (sign_code _) c.sign-3.ensures (ap offset_taken c.in-Value-sign-2.is) in
-    let h4 = known (sign_code _) c.sign-4.ensures (ap offset_taken c.in-Value-sign-3.is) in
     let f = c.args.f in
-    let e1 = value_holds (sign_code f.v1) h1 in
-    let e2 = value_holds (sign_code f.v2) h2 in
-    let e3 = value_holds (sign_code f.v3) h3 in
-    let e4 = value_holds (sign_code f.v4) h4 in
-    takes (signs_code _) (valued (read_as (signs_read _) (then_took _ h1 (then_took _ h2 (then_took _ h3 (mapped_took _ h4)))))
-    (four_back
-    (omega (arith, e1, c.requires.v1_bound.0))
-    (omega (arith, e2, c.requires.v1_bound.1))
-    (omega (arith, e3, c.requires.v1_bound.2))
-    (omega (arith, e4, c.requires.v1_bound.3))))
+    let e1 = known_taken c.sign.ensures c.in_ok-o1.was in
+    let e2 = known_taken c.sign-2.ensures c.in_ok-o2.was in
+    let e3 = known_taken c.sign-3.ensures c.in_ok-o3.was in
+    let e4 = known_taken c.sign-4.ensures c.in_ok-o4.was in
+    let b1 = byte_back c.in_ok-o1.o1 (omega (arith, e1.spells.0, c.requires.0)) in
+    let b2 = byte_back c.in_ok-o2.o2 (omega (arith, e2.spells.0, c.requires.1)) in
+    let b3 = byte_back c.in_ok-o3.o3 (omega (arith, e3.spells.0, c.requires.2)) in
+    let b4 = byte_back c.in_ok-o4.o4 (omega (arith, e4.spells.0, c.requires.3)) in
+    valued_taken
+    (took_four (sign_code f.o1) (sign_code f.o2) (sign_code f.o3) (sign_code f.o4) c.sign.ensures c.in_ok-o1.was c.sign-2.ensures c.in_ok-o2.was
+    c.sign-3.ensures c.in_ok-o3.was c.sign-4.ensures c.in_ok-o4.was)
+    (λ n. four (b1 n) (b2 n) (b3 n) (b4 n))

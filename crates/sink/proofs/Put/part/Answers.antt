@@ -1,6 +1,7 @@
 -- The byte that is stored has the bits before the place, the new ones, and zeros.
+use borrow.Author.Rules.{rules}
 use mathlib.Core.Path.{refl, ap}
-use Prim.Native.Nat.{ℕ, ◌-◌, ◌/◌, ◌%◌}
+use Prim.Native.Nat.{ℕ, ◌-◌, ◌/◌, ◌%◌, ◌<◌}
 use native.Mathlib.Omega.{arith}
 use lib.ListN.{get_or, set}
 use Rattle.sink.proofs.Packed.{part_puts, part_value, part_value_lt}
@@ -8,20 +9,28 @@ use Rattle.sink.proofs.Put.part.Goals as goal
 
 pub overflow_add-out : goal.overflow_add-out
 overflow_add-out c =
-    let a = c.args in
-    let old = (c.slice_known-1.given (a.self.at / 8)).fits in
-    omega (arith, old, part_value_lt (get_or a.out.now (a.self.at / 8) 0) a.self.at a.width a.value old c.requires.width_nonzero.1)
+    let p = c.args.self.now in
+    let l = p.out.now in
+    let byte : get_or l (p.at / 8) 0 < 256 = search rules in
+    omega (arith, part_value_lt (get_or l (p.at / 8) 0) p.at c.args.width c.args.value byte c.requires.width_nonzero.1)
 
 pub overflow_cast-out : goal.overflow_cast-out
 overflow_cast-out c =
-    let a = c.args in
-    let old = (c.slice_known-1.given (a.self.at / 8)).fits in
-    record { fits = part_value_lt (get_or a.out.now (a.self.at / 8) 0) a.self.at a.width a.value old c.requires.width_nonzero.1 }
+    let p = c.args.self.now in
+    let l = p.out.now in
+    let byte : get_or l (p.at / 8) 0 < 256 = search rules in
+    record { fits = part_value_lt (get_or l (p.at / 8) 0) p.at c.args.width c.args.value byte c.requires.width_nonzero.1 }
 
 pub returns : goal.returns
 returns c =
+    let p = c.args.self.now in
     let a = c.args in
-    let l = a.out.now in
-    let i : ℕ = a.self.at / 8 in
-    part_puts l a.self.at a.width a.value _ _ c.requires.width_nonzero.1 c.requires.width_nonzero.0 c.requires.room.fits (λ i. (c.slice_known-1.given i).fits)
-    (ap (λ (n : ℕ). set l i n) (part_value (get_or l i 0) (8 - a.self.at % 8) a.width a.value (c.slice_known-1.given i).fits (omega arith) (omega arith))) refl
+    let l = p.out.now in
+    let i : ℕ = p.at / 8 in
+    let bytes : (j : ℕ) → get_or l j 0 < 256 = λ j. search rules in
+    let w = c.requires.width_nonzero in
+    record {
+      puts = part_puts l p.at a.width a.value _ _ w.1 w.0 c.requires.room.fits bytes
+          (ap (λ (n : ℕ). set l i n) (part_value (get_or l i 0) (8 - p.at % 8) a.width a.value (bytes i) (omega arith) (omega arith))) refl;
+      same_bytes = refl;
+    }

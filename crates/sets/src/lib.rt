@@ -189,7 +189,7 @@ fn is_fit(s: Six, m: u32) -> bool
 fn is_fit_at(s: Switches, component: u8, six: Six) -> bool
     ensures { Tells (Fits (most s component) (says six)) result }
 {
-    is_fit(six, geometry::most_of(s, component))
+    is_fit(six, geometry::most_of(s, component).value)
 }
 
 // Whether Cr has Cb's type and class.

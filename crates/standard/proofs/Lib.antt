@@ -26,6 +26,7 @@ pub mod Longest
 pub mod Signed
 pub mod Entries
 pub mod Decisions
+pub mod Same
 pub mod Judging
 pub mod Called
 pub mod Spelling

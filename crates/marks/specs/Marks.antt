@@ -1,5 +1,5 @@
 -- What a scan of marks looks for, and how far it comes.
-use Rattle.std.specs.Prelude.{◌≡◌, List, ◌⊎◌, ℕ, ◌+◌, ◌<◌, length, get_or}
+use Rattle.std.specs.Prelude.{◌≡◌, List, ◌⊎◌, ℕ, ◌<◌, length, get_or}
 
 -- a mark below low, or above high
 abbrev pub Outside : ℕ → ℕ → ℕ → Type 0

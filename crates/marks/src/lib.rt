@@ -1,21 +1,19 @@
 // The marks of CTBs: that of one, and scans of several.
 #![tactic(auto)]
 
-ghost use Rattle.std.specs.Prelude.{◌≡◌, ◌+◌, ◌≤◌, ◌<◌, ℕ, length, slice_index};
-ghost use Rattle.standard.specs.Picture.{Rules, components, ctu_count};
+ghost use Rattle.std.specs.Prelude.{◌≡◌, ℕ, ◌≤◌, ◌<◌, length, slice_index};
 ghost use Rattle.standard.specs.Refusals.{Tells};
 ghost use Rattle.standard.specs.Reasons.{MarksFit, mark_of};
 ghost use Rattle.marks.specs.Marks.{Outside, SomeOutside, LeadingInside};
 
-use standard::Picture;
+use geometry::Block;
 
 // The mark of a CTB.
-pub fn mark_of(p: Picture, component: u8, ctb: u32, marks: &[u8]) -> u8
-    requires { Rules p × MarksFit p marks.now × (component < components p) × (ctb < ctu_count p) }
-    ensures { result ≡ mark_of p marks.now component ctb }
+pub fn mark_of(block: Block, marks: &[u8]) -> u8
+    requires { MarksFit block.of.picture marks.now }
+    ensures { result ≡ mark_of block.of.picture marks.now block.component block.ctb }
 {
-    let i = geometry::mark_place(p, component, ctb);
-    marks[i]
+    marks[block.mark_place()]
 }
 
 // The marks that a scan passes over: those from low to high.

@@ -1,6 +1,6 @@
 -- No chunk passed has a mark outside.
-use Rattle.std.proofs.Common.{rules, arith, ◌≡◌, ◌+◌, ◌≤◌, ◌<◌, ℕ, length, take, drop, ◌*◌, sym}
-use Rattle.marks.specs.Marks.{Outside, SomeOutside}
+use Rattle.std.proofs.Common.{rules, arith, ◌≡◌, take, drop, ◌*◌}
+use Rattle.marks.specs.Marks.{SomeOutside}
 use Rattle.marks.proofs.Marks.{inside_chunks, same_item}
 use Rattle.marks.proofs.leading_chunks.Goals as goal
 

@@ -28,10 +28,6 @@ module _ (m : ℕ) {cb : Offsets} where
       let t = cr_band_to m p v c i in
       ((i.0, subst (λ (o : Offsets). Shares o c) (sym e) t.0.1), t.1)
 
-  pub edge_after : {class : ℕ} {v : Four ℤ} → cb ≡ Edge class v → (c : Offsets) → EdgeOf m class c → AfterCb m cb c × (rest_of_cr m c ≡ rest_of_cr m c)
-  edge_after {class} {v} e c (i, o, f) =
-      ((i, subst (λ (o : Offsets). Shares o c) (sym e) (subst (Shares (Edge class v)) (sym f) refl)), refl)
-
 -- as Cr's code has it, which leaves out the rule of the class
 but_class : (m : ℕ) (c : Offsets) → Fits m c → CrFits m c
 but_class m Off i = tt

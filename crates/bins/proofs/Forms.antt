@@ -1,7 +1,7 @@
 -- The form that a CTU's bins begin with, from its merges and the full form; and what that form says of all of them.
 use mathlib.Core.Path.{◌≡◌, refl, sym, ap, ◌∙◌, subst}
 use mathlib.Core.Bool.{Bool, true, false}
-use mathlib.Core.List.{List, [], ◌∷◌, ◌++◌, append_assoc, append-nil}
+use mathlib.Core.List.{List, [], ◌∷◌, ◌++◌, append-nil}
 use Rattle.std.specs.Prelude.{Option, Some, None, Result, Ok, Err}
 use Rattle.std.specs.Result.{IsErrAnd}
 use Prim.Native.Nat.{ℕ, ◌*◌, ◌≤◌, ◌<◌}
@@ -24,14 +24,9 @@ use Rattle.bins.specs.Values.{MergeFits, merge_bins, FormFits, bins_of_form}
 use Rattle.bins.specs.Forms.{is_there, Says, ReadAs}
 use Rattle.bins.proofs.Fetch.{bins_length}
 use Rattle.bins.proofs.Places.{left_over}
-use Rattle.bins.proofs.Steps.{same_bins, then_takes, said_took, said_cut}
+use Rattle.bins.proofs.Steps.{then_takes, said_cut}
 
 -- ---- a merge
-
--- only the neighbour that is there is merged with
-merged_there : (there : Bool) → MergeFits there true → there ≡ true
-merged_there true i = refl
-merged_there false i = impossible cc
 
 -- its one bin is missing, where the bins end too early
 bin_missing : (there taken : Bool) (l : List Bool) (b : Bool) (more : List Bool) → l ++ (b ∷ more) ≡ merge_bins there taken → (there ≡ true) × (l ≡ [])
@@ -48,11 +43,6 @@ module _ {there : Bool} {c : Cursor} where
   merge_missing : TakesMerge there c None → (there ≡ true) × (bins_at c ≡ [])
   merge_missing h = let (taken, b, more, i, e) = h.spells in bin_missing there taken (bins_at c) b more e
 
-  merge_bin : {next : Cursor} → TakesMerge there c (Some (true, next)) → (there ≡ true) × (bins_at c ≡ (true ∷ []) ++ bins_at next)
-  merge_bin {next} h =
-      let on = merged_there there h.spells.0 in
-      (on, h.spells.1 ∙ ap (λ (b : Bool). merge_bins b true ++ bins_at next) on)
-
 -- ---- merge left, else merge up, else the full form
 
 abbrev Begins : Switches → Bool → Bool → Cursor → Taken Form → Type 0
@@ -62,9 +52,6 @@ module _ (s : Switches) (has_left has_up : Bool) {c : Cursor} where
   pub left_missing : TakesMerge has_left c None → Begins s has_left has_up c None
   left_missing h = let m = merge_missing h in record { spells = (Left, true, [], m.0, ap (λ (l : List Bool). l ++ (true ∷ [])) m.1) }
 
-  pub left_taken : {next : Cursor} → TakesMerge has_left c (Some (true, next)) → Begins s has_left has_up c (Some (Left, next))
-  left_taken h = let m = merge_bin h in record { spells = (m.0, m.1, h.spells.2) }
-
   module _ {d : Cursor} (h : TakesMerge has_left c (Some (false, d))) where
     pub up_missing : TakesMerge has_up d None → Begins s has_left has_up c None
     up_missing k =
@@ -72,18 +59,9 @@ module _ (s : Switches) (has_left has_up : Bool) {c : Cursor} where
         let front = h.spells.1 ∙ ap (λ (l : List Bool). merge_bins has_left false ++ l) m.1 ∙ append-nil (merge_bins has_left false) in
         record { spells = (Up, true, [], m.0, ap (λ (l : List Bool). l ++ (true ∷ [])) front) }
 
-    pub up_taken : {next : Cursor} → TakesMerge has_up d (Some (true, next)) → Begins s has_left has_up c (Some (Up, next))
-    up_taken {next} k =
-        let m = merge_bin k in
-        let front = h.spells.1 ∙ ap (λ (l : List Bool). merge_bins has_left false ++ l) m.1 in
-        record { spells = (m.0, front ∙ sym (append_assoc (merge_bins has_left false) (true ∷ []) (bins_at next)), same_bins h.spells.2 k.spells.2) }
-
     module _ {e : Cursor} (k : TakesMerge has_up d (Some (false, e))) where
       pub full_missing : Takes (Valid s) (full s) e None → Begins s has_left has_up c None
       full_missing l = said_cut Full (λ q v. (v, refl)) (then_takes h (then_takes k l))
-
-      pub full_taken : {q : CtuSet} {next : Cursor} → Takes (Valid s) (full s) e (Some (q, next)) → Begins s has_left has_up c (Some (Full q, next))
-      full_taken l = said_took Full (λ q v. (v, refl)) (then_takes h (then_takes k l))
 
 -- ---- what a form says
 

@@ -11,7 +11,7 @@ use Rattle.bins.specs.declared.Cursor.{Cursor}
 use Rattle.bins.specs.Takes.{Taken, Takes}
 use Rattle.bins.proofs.ByReader.{takes}
 use Rattle.bins.proofs.Readers.{four_read}
-use Rattle.bins.proofs.Steps.{known, missed, read_as, then_took, then_cut, mapped_took}
+use Rattle.bins.proofs.Steps.{ended, known, missed, read_as, then_took, then_cut, mapped_took}
 
 abbrev TakesFour : {A : Type 0} → (A → Type 0) → (A → Type 0) → (A → Type 0) → (A → Type 0) → (A → List Bool) → Cursor → Taken (Four A) → Type 0
 TakesFour {A} P1 P2 P3 P4 f c r = Takes (λ (o : Four A). P1 o.o1 × (P2 o.o2 × (P3 o.o3 × P4 o.o4))) (four_bins f) c r
@@ -20,7 +20,7 @@ module _ {A : Type 0} {P1 P2 P3 P4 : A → Type 0} {f : A → List Bool}
     (k1 : Code (Spelled P1 f)) (k2 : Code (Spelled P2 f)) (k3 : Code (Spelled P3 f)) (k4 : Code (Spelled P4 f)) {c : Cursor} where
   module _ {r1 : Taken A} (h1 : Takes P1 f c r1) where
     pub cut_first : {r : Taken (Four A)} → r1 ≡ None → r ≡ None → TakesFour P1 P2 P3 P4 f c r
-    cut_first e z = missed z (takes (four_code k1 k2 k3 k4) (read_as (four_read k1 k2 k3 k4) (then_cut _ (known k1 h1 e))))
+    cut_first e z = ended k1 (four_code k1 k2 k3 k4) _ (four_read k1 k2 k3 k4) h1 e z
 
     module _ {o1 : A} {d1 : Cursor} (e1 : r1 ≡ Some (o1, d1)) {r2 : Taken A} (h2 : Takes P2 f d1 r2) where
       pub cut_second : {r : Taken (Four A)} → r2 ≡ None → r ≡ None → TakesFour P1 P2 P3 P4 f c r

@@ -6,7 +6,6 @@ pub mod ByReader
 pub mod Steps
 pub mod Fours
 pub mod Places
-pub mod SmallNumbers
 pub mod AfterCb
 pub mod Forms
 pub mod Contracts

@@ -196,16 +196,6 @@ pub rest_off : (m : ℕ) (l : List Bool) → (rest_code m 0).read l ≡ got Off 
 unfolding rest_code said_of as_code pure
 rest_off m l = refl
 
-pub rest_band : (m : ℕ) (l : List Bool) → (rest_code m 1).read l ≡ (band_code m).read l
-unfolding rest_code
-rest_band m l = refl
-
-pub rest_edge : (m t : ℕ) (l : List Bool) → (t ≡ 0 → ⊥) → (t ≡ 1 → ⊥) → (rest_code m t).read l ≡ (edge_code m).read l
-unfolding rest_code
-rest_edge m zero l h k = absurd (h refl)
-rest_edge m (suc zero) l h k = absurd (k refl)
-rest_edge m (suc (suc t)) l h k = refl
-
 -- ---- Cb and Cr
 
 pub chroma_read : (m n : ℕ) (l : List Bool) → (chroma_code m n).read l

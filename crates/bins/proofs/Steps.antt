@@ -6,7 +6,7 @@ use Rattle.std.specs.Prelude.{Some, None}
 use Rattle.standard.proofs.Codes.{Got, got, then, Code, Spelled}
 use Rattle.bins.specs.declared.Cursor.{Cursor}
 use Rattle.bins.specs.Takes.{bins_at, SameBins, Taken, Takes}
-use Rattle.bins.proofs.ByReader.{Goes, Reads, reads}
+use Rattle.bins.proofs.ByReader.{Goes, Reads, takes, reads}
 
 here : {c : Cursor} → SameBins c c
 here = record { count = refl; bytes = refl }
@@ -95,7 +95,8 @@ module _ {A : Type 0} {c : Cursor} {reader : List Bool → Got A} where
       → Reads c (λ l. then (reader l) (λ a l. got (f a) l)) (Some (f a, next))
   mapped_took f h = record { says = ap (λ (g : Got A). then g (λ a l. got (f a) l)) h.says; goes = h.goes }
 
--- the value of a code's reading is one of the code's
-pub value_holds : {A : Type 0} {P : A → Type 0} {f : A → List Bool} (c : Code (Spelled P f)) {at next : Cursor} {a : A}
-    → Reads at c.read (Some (a, next)) → P a
-value_holds c {at} {next} {a} h = (c.only (bins_at at) a (bins_at next) (sym h.says)).2.holds
+-- a value that begins with another, within which the bins end
+pub ended : {A B : Type 0} {P : A → Type 0} {f : A → List Bool} {Q : B → Type 0} {g : B → List Bool}
+    (part : Code (Spelled P f)) (code : Code (Spelled Q g)) (next : A → List Bool → Got B) → ((l : List Bool) → code.read l ≡ then (part.read l) next)
+    → {c : Cursor} {first : Taken A} {r : Taken B} → Takes P f c first → first ≡ None → r ≡ None → Takes Q g c r
+ended part code next e h was none = missed none (takes code (read_as e (then_cut _ (known part h was))))

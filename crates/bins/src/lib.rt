@@ -43,7 +43,7 @@ pub enum BinsError {
     BinsRemain,
 }
 
-// The byte at i, and 0 past the end.
+// The byte at i, and 0 past the end: `get` and a closure are no plainer.
 fn byte_at(bytes: &[u8], i: usize) -> u64
     ensures value { result ≡ get_or bytes.now i 0 }
     ensures upper_bound { result < 256 }
@@ -136,7 +136,8 @@ impl<'a> Cursor<'a> {
         Some((v == 1, next))
     }
 
-    // Four magnitudes of at most M.
+    // Four magnitudes of at most M. Each begins at the cursor that the one before hands back, so a closure over the four,
+    // here and in `signs`, is no plainer.
     fn magnitudes(self, m: Most) -> Taken<'a, Four<u32>>
         ensures { Takes (MagnitudesFit m.value) (magnitudes_bins m.value) self.entry result }
     {

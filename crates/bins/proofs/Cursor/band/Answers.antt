@@ -4,12 +4,11 @@ use Rattle.standard.proofs.Elements.{fixed_code, magnitudes_code, signs_code}
 use Rattle.standard.proofs.Components.{band_of, band_code}
 use Rattle.bins.proofs.ByReader.{takes}
 use Rattle.bins.proofs.Readers.{band_read}
-use Rattle.bins.proofs.Steps.{known, missed, read_as, then_took, then_cut, mapped_took}
+use Rattle.bins.proofs.Steps.{ended, known, missed, read_as, then_took, then_cut, mapped_took}
 use Rattle.bins.proofs.Cursor.band.Goals as goal
 
 pub returns-in_err-f : goal.returns-in_err-f
-returns-in_err-f c =
-    missed c.from_residual.ensures (takes (band_code _) (read_as (band_read _) (then_cut _ (known (magnitudes_code _) c.magnitudes.ensures c.in_err-f.was))))
+returns-in_err-f c = ended (magnitudes_code _) (band_code _) _ (band_read _) c.magnitudes.ensures c.in_err-f.was c.from_residual.ensures
 
 pub returns-in_err-offsets : goal.returns-in_err-offsets
 unfolding signs

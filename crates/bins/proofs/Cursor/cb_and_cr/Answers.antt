@@ -3,13 +3,11 @@ use Rattle.standard.proofs.Components.{component_code, cr_code, chroma_code}
 use Rattle.bins.proofs.ByReader.{takes}
 use Rattle.bins.proofs.Readers.{chroma_read}
 use Rattle.bins.proofs.AfterCb.{after_code}
-use Rattle.bins.proofs.Steps.{known, missed, takes_as, read_as, then_took, then_cut}
+use Rattle.bins.proofs.Steps.{ended, known, missed, takes_as, read_as, then_took, then_cut}
 use Rattle.bins.proofs.Cursor.cb_and_cr.Goals as goal
 
 pub returns-in_err-cb : goal.returns-in_err-cb
-returns-in_err-cb c =
-    missed c.from_residual.ensures
-    (takes (chroma_code _ _) (read_as (chroma_read _ _) (then_cut _ (known (component_code _) c.component.ensures c.in_err-cb.was))))
+returns-in_err-cb c = ended (component_code _) (chroma_code _ _) _ (chroma_read _ _) c.component.ensures c.in_err-cb.was c.from_residual.ensures
 
 pub returns-in_err-cr : goal.returns-in_err-cr
 returns-in_err-cr c =

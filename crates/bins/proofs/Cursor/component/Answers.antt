@@ -3,13 +3,11 @@ use Rattle.standard.proofs.Elements.{truncated_code}
 use Rattle.standard.proofs.Components.{component_code}
 use Rattle.bins.proofs.ByReader.{takes}
 use Rattle.bins.proofs.Readers.{component_read, rest_off}
-use Rattle.bins.proofs.Steps.{made, known, missed, read_as, then_took, then_cut}
+use Rattle.bins.proofs.Steps.{made, ended, known, read_as, then_took}
 use Rattle.bins.proofs.Cursor.component.Goals as goal
 
 pub returns-in_err-t : goal.returns-in_err-t
-returns-in_err-t c =
-    missed c.from_residual.ensures
-    (takes (component_code _) (read_as (component_read _) (then_cut _ (known (truncated_code _) c.magnitude.ensures c.in_err-t.was))))
+returns-in_err-t c = ended (truncated_code _) (component_code _) _ (component_read _) c.magnitude.ensures c.in_err-t.was c.from_residual.ensures
 
 pub returns-then-t-eq0 : goal.returns-then-t-eq0
 returns-then-t-eq0 c =

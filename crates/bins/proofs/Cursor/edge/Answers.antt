@@ -4,13 +4,11 @@ use Rattle.standard.proofs.Elements.{fixed_code}
 use Rattle.standard.proofs.Components.{edge_signed_code, edge_code}
 use Rattle.bins.proofs.ByReader.{takes}
 use Rattle.bins.proofs.Readers.{edge_read}
-use Rattle.bins.proofs.Steps.{known, missed, read_as, then_took, then_cut, mapped_took}
+use Rattle.bins.proofs.Steps.{ended, known, missed, read_as, then_took, then_cut, mapped_took}
 use Rattle.bins.proofs.Cursor.edge.Goals as goal
 
 pub returns-in_err-offsets : goal.returns-in_err-offsets
-returns-in_err-offsets c =
-    missed c.from_residual.ensures
-    (takes (edge_code _) (read_as (edge_read _) (then_cut _ (known (edge_signed_code _) c.edge_offsets.ensures c.in_err-offsets.was))))
+returns-in_err-offsets c = ended (edge_signed_code _) (edge_code _) _ (edge_read _) c.edge_offsets.ensures c.in_err-offsets.was c.from_residual.ensures
 
 pub returns-in_err-k : goal.returns-in_err-k
 returns-in_err-k c =

@@ -6,14 +6,12 @@ use Rattle.standard.proofs.Elements.{magnitudes_code}
 use Rattle.standard.proofs.Components.{edge_signed, edge_signed_code}
 use Rattle.bins.proofs.ByReader.{takes}
 use Rattle.bins.proofs.Readers.{edge_offsets_read}
-use Rattle.bins.proofs.Steps.{known, missed, read_as, valued, then_cut, mapped_took}
+use Rattle.bins.proofs.Steps.{ended, known, read_as, valued, mapped_took}
 use Rattle.standard.proofs.Signed.{backed}
 use Rattle.bins.proofs.Cursor.edge_offsets.Goals as goal
 
 pub returns-in_err-f : goal.returns-in_err-f
-returns-in_err-f c =
-    missed c.from_residual.ensures
-    (takes (edge_signed_code _) (read_as (edge_offsets_read _) (then_cut _ (known (magnitudes_code _) c.magnitudes.ensures c.in_err-f.was))))
+returns-in_err-f c = ended (magnitudes_code _) (edge_signed_code _) _ (edge_offsets_read _) c.magnitudes.ensures c.in_err-f.was c.from_residual.ensures
 
 pub returns : goal.returns
 returns c =

@@ -7,7 +7,7 @@ use Rattle.standard.proofs.Codes.{bit}
 use Rattle.standard.proofs.Elements.{sign_code}
 use Rattle.bins.proofs.ByReader.{takes}
 use Rattle.bins.proofs.Readers.{sign_none, sign_some}
-use Rattle.bins.proofs.Steps.{made, read_as, known, missed, valued, then_cut, mapped_took}
+use Rattle.bins.proofs.Steps.{made, ended, read_as, known, valued, mapped_took}
 use Rattle.standard.proofs.Signed.{backed}
 use Rattle.bins.proofs.Cursor.sign.Goals as goal
 
@@ -15,9 +15,7 @@ pub returns-then-v-eq0 : goal.returns-then-v-eq0
 returns-then-v-eq0 c = takes (sign_code _) (made _ (λ l. rw c.if-v-eq0.true (sign_none l)))
 
 pub returns-in_err-negative : goal.returns-in_err-negative
-returns-in_err-negative c =
-    missed c.from_residual.ensures
-    (takes (sign_code _) (read_as (λ l. sign_some _ l c.if-v-eq0.false) (then_cut _ (known bit c.flag.ensures c.in_err-negative.was))))
+returns-in_err-negative c = ended bit (sign_code _) _ (λ l. sign_some _ l c.if-v-eq0.false) c.flag.ensures c.in_err-negative.was c.from_residual.ensures
 
 pub returns : goal.returns
 returns c =

@@ -47,6 +47,9 @@ off_says s = of s.kind
     of (suc zero) e = cc
     of (suc (suc n)) e = cc
 
+-- for the functions that go by the type
+pub ruleset by_kind = (says_off, says_band, says_edge, off_says)
+
 -- ---- the bytes of a component say it
 
 pub coded : (o : Offsets) (s : Six) → ByteOffsets o → list_of s ≡ encode_offsets o → Coded o s

@@ -3,11 +3,10 @@ use mathlib.Core.Path.{◌≡◌, refl, sym, ap, ap₂, ◌∙◌, subst}
 use mathlib.Core.List.{List, ◌++◌}
 use Rattle.std.specs.Prelude.{Option, None, Some}
 use Prim.Native.Nat.{ℕ, zero, suc, ◌+◌, ◌*◌, ◌≤◌}
-use native.Mathlib.Omega.{arith}
-use lib.ListN.{length, get_or, take, drop}
+use lib.ListN.{length, take, drop}
 use Rattle.standard.specs.declared.CtuSet.{CtuSet}
 use Rattle.standard.specs.declared.Switches.{Switches}
-use Rattle.standard.specs.Sets.{four, Valid}
+use Rattle.standard.specs.Sets.{Valid}
 use Rattle.standard.specs.Table.{entry_size, encode, entry, entered, Sound, decode, stored, offsets_at}
 use Rattle.standard.proofs.Entries.{entry_set, stored_sound, sound_same, stored_same, valid_bytes}
 use Rattle.sets.specs.declared.SetBytes.{SetBytes}
@@ -50,6 +49,9 @@ module _ (table : List ℕ) (k : ℕ) (b : SetBytes)
 
     pub holds : Codes b → Valid s (set_of b) → Holds s table k (set_of b)
     holds e v = record { bytes = entry_parts ∙ parts_code b e ∙ sym (entry_set (set_of b)); rules = v }
+
+-- for the function that goes by the component
+pub ruleset by_component = (luma_says, cb_says, cr_says)
 
 -- ---- what is found is what is stored, and nothing else can be
 

@@ -1,10 +1,10 @@
 -- Bytes put into a list, and read out of it, six by six.
-use mathlib.Core.Path.{◌≡◌, refl, sym, ap, ap₂, ◌∙◌}
-use mathlib.Core.List.{List, [], ◌∷◌, ◌++◌, append_assoc, append-nil}
-use Prim.Native.Nat.{ℕ, suc, ◌+◌, ◌*◌, ◌≤◌, ◌<◌}
+use mathlib.Core.Path.{◌≡◌, sym, ap, ap₂, ◌∙◌}
+use mathlib.Core.List.{List, ◌++◌, append_assoc, append-nil}
+use Prim.Native.Nat.{ℕ, ◌+◌, ◌*◌, ◌≤◌}
 use native.Mathlib.Omega.{arith}
-use lib.ListN.{length, get_or, set, take, drop, length-append, drop_of_length-le}
-use lib.Seq.{sets, sets-eq, take_at, drop-append-add, length-take-le, drop-cons, take-add, drop-drop}
+use lib.ListN.{length, take, drop, length-append, drop_of_length-le}
+use lib.Seq.{take_at, drop-append-add, length-take-le, take-add, drop-drop}
 use Rattle.standard.specs.declared.CtuSet.{CtuSet}
 use Rattle.standard.specs.Table.{set_size, entry_size, encode, entry, entered}
 use Rattle.standard.proofs.Entries.{encode_length, entry_set}

@@ -97,7 +97,7 @@ impl From<Offsets> for Six {
 impl From<Six> for Offsets {
     ghost from_gives = { λ s o. o ≡ says s };
 
-    #[tactic(auto, using(crate::proofs::Bytes::says_off, crate::proofs::Bytes::says_band, crate::proofs::Bytes::says_edge))]
+    #[tactic(auto, using(crate::proofs::Bytes::by_kind))]
     fn from(s: Six) -> Offsets {
         match s.kind {
             0 => Offsets::Off,
@@ -167,14 +167,14 @@ fn has_edge_signs(b: Four<u8>) -> bool
     b.o1 >= 128 && b.o2 >= 128 && b.o3 <= 128 && b.o4 <= 128
 }
 
-#[tactic(auto, using(crate::proofs::Bytes::says_off, crate::proofs::Bytes::off_says))]
+#[tactic(auto, using(crate::proofs::Bytes::by_kind))]
 fn is_off(s: Six) -> bool
     ensures { Tells (says s ≡ Off) result }
 {
     s.kind == 0
 }
 
-#[tactic(auto, using(crate::proofs::Bytes::says_off, crate::proofs::Bytes::says_band, crate::proofs::Bytes::says_edge))]
+#[tactic(auto, using(crate::proofs::Bytes::by_kind))]
 fn is_fit(s: Six, m: u32) -> bool
     ensures { Tells (Fits m (says s)) result }
 {
@@ -193,7 +193,7 @@ fn is_fit_at(s: Switches, component: u8, six: Six) -> bool
 }
 
 // Whether Cr has Cb's type and class.
-#[tactic(auto, using(crate::proofs::Bytes::says_off, crate::proofs::Bytes::says_band, crate::proofs::Bytes::says_edge))]
+#[tactic(auto, using(crate::proofs::Bytes::by_kind))]
 fn is_shared(cb: Six, cr: Six) -> bool
     ensures { Tells (Shares (says cb) (says cr)) result }
 {
@@ -238,6 +238,9 @@ pub fn is_valid(s: Switches, q: CtuSet) -> bool
 }
 
 // ---- stored
+
+// That an entry lies in the table stands in three contracts and in no type: this half lends the table
+// to write and the next to read, so a type would be two, for one function and for two.
 
 fn put_six(table: &mut [u8], at: usize, s: Six)
     requires { at + 6 ≤ length table.old }
@@ -309,7 +312,7 @@ fn are_codes(b: SetBytes) -> bool
 }
 
 // The set of an entry; none where its bytes encode no set within the rules.
-#[tactic(auto, using(crate::proofs::Finding::no_code, crate::proofs::Finding::not_ruled, crate::proofs::Finding::holds))]
+#[tactic(auto, using(crate::proofs::Finding::holds))]
 pub fn get_set(s: Switches, table: &[u8], k: usize) -> Option<CtuSet>
     requires { entry_size * k + entry_size ≤ length table.now }
     ensures { Finds s table.now k result }
@@ -324,7 +327,7 @@ pub fn get_set(s: Switches, table: &[u8], k: usize) -> Option<CtuSet>
 
 // The set of one component of an entry, as its bytes say it: bytes that encode nothing say something
 // or other.
-#[tactic(auto, using(crate::proofs::Finding::luma_says, crate::proofs::Finding::cb_says, crate::proofs::Finding::cr_says))]
+#[tactic(auto, using(crate::proofs::Finding::by_component))]
 pub fn offsets_at(table: &[u8], k: usize, component: u8) -> Offsets
     requires { entry_size * k + entry_size ≤ length table.now }
     ensures { result ≡ offsets_at table.now component k }

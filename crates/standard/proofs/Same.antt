@@ -43,5 +43,11 @@ set_same a b =
     (Decides-and _ _ (offsets_same a.luma b.luma) (Decides-and _ _ (offsets_same a.cb b.cb) (offsets_same a.cr b.cr)))
 
 -- the same of a test's answer
+tells_same : {A : Type 0} {a b : A} (r e : Bool) → Decides e (a ≡ b) → r ≡ e → Tells (a ≡ b) r
+tells_same r e d f = tell r (λ g. d.0 (sym f ∙ g)) (λ g s. let t = f ∙ d.1 s in differ (cc))
+
+pub tells_same_offsets : (a b : Offsets) (r : Bool) → r ≡ offsets.ghosts.eq a b → Tells (a ≡ b) r
+tells_same_offsets a b r e = tells_same r (offsets.ghosts.eq a b) (offsets_same a b) e
+
 pub tells_same_set : (a b : CtuSet) (r : Bool) → r ≡ sets.ghosts.eq a b → Tells (a ≡ b) r
-tells_same_set a b r e = tell r (λ f. (set_same a b).0 (sym e ∙ f)) (λ f s. let t = e ∙ (set_same a b).1 s in differ (cc))
+tells_same_set a b r e = tells_same r (sets.ghosts.eq a b) (set_same a b) e

@@ -9,8 +9,8 @@ returns-else-are_codes c =
     let a = c.args in
     let b = c.get_bytes-b in
     elim c.else-are_codes.branch [
-      else-are_codes-via-then-are_codes+else-is_ruled w ↦
-        not_ruled a.table.now a.k b.result b.ensures.luma b.ensures.cb b.ensures.cr (told_not w.is_ruled.ensures w.if-is_ruled.false)
+      | else-are_codes-via-then-are_codes+else-is_ruled w ↦
+          not_ruled a.table.now a.k b.result b.ensures.luma b.ensures.cb b.ensures.cr (told_not w.is_ruled.ensures w.if-is_ruled.false)
       | else-are_codes-via-else-are_codes w ↦
-        no_code a.table.now a.k b.result b.ensures.luma b.ensures.cb b.ensures.cr (told_not c.are_codes.ensures w.if-are_codes.false)
+          no_code a.table.now a.k b.result b.ensures.luma b.ensures.cb b.ensures.cr (told_not c.are_codes.ensures w.if-are_codes.false)
     ]

@@ -30,17 +30,20 @@
 // number of xorshift32 after the sum XOR the sample; and where asked for the samples themselves.
 #![tactic(auto)]
 
-ghost use Rattle.std.specs.Prelude.{◌≡◌, ◌*◌, ◌<◌, ◌≤◌, true};
+ghost use Rattle.std.specs.Prelude.{◌≡◌, ◌*◌, ◌≤◌, true};
 ghost use Rattle.standard.specs.Refusals.{Tells};
 ghost use Rattle.samples.specs.Around.{NoMore};
 ghost use Rattle.samples.specs.Blocks.{Legal};
 ghost use Rattle.blocks.specs.Sound.{Sound};
 
-use records::{pair, print_word, read_full, wide};
+use planes::Plane;
+use records::{Draws, pair, read_record, sum_after};
 use samples::Around;
-use standard::{Layout, Offsets, Rectangle};
-use std::io;
-use std::io::Read;
+use standard::{Four, Layout, Offsets, Rectangle};
+use std::{fmt, io};
+
+// How many bytes a record has.
+const RECORD: usize = 24;
 
 // The largest plane: a block of 64x64, a sample around it, and as much again, so that the block can
 // lie anywhere in it. Any width and height will do whose product is no larger.
@@ -48,55 +51,72 @@ const SIDE: usize = 130;
 
 const PLANE: usize = SIDE * SIDE;
 
+// Why a record's block is not filtered: each is a line.
+#[derive(Clone, Copy)]
+enum Refused {
+    NoRoom,
+    NoBlock,
+    NoPlane,
+}
+
+impl fmt::Display for Refused {
+    fn fmt<W: fmt::Write>(&self, f: &mut fmt::Formatter<W>) -> fmt::Result {
+        f.write_str(match self {
+            Refused::NoRoom => "no room",
+            Refused::NoBlock => "no block",
+            Refused::NoPlane => "no plane",
+        })
+    }
+}
+
 // ---- samples
 
-fn next(x: u32) -> u32 {
-    let a = x ^ (x << 13);
-    let b = a ^ (a >> 17);
-    b ^ (b << 5)
+// How the samples of a plane are made.
+#[derive(Clone, Copy)]
+enum Manner {
+    Given,
+    Noise,
+    FewLevels,
+    Flat,
+    Extreme,
+    Alternating,
 }
 
-fn seed(record: &[u8; 24]) -> u32 {
-    pair(record[16], record[17]) + 65536 * pair(record[18], record[19])
-}
-
-fn alternating(level: u32, i: usize, period: usize) -> u32
-    requires { (level < 65536) × (0 < period) }
-{
-    if i / period % 2 == 0 {
-        level
-    } else {
-        65535 - level
+impl From<u8> for Manner {
+    fn from(number: u8) -> Manner {
+        match number {
+            0 => Manner::Given,
+            1 => Manner::Noise,
+            2 => Manner::FewLevels,
+            3 => Manner::Flat,
+            4 => Manner::Extreme,
+            _ => Manner::Alternating,
+        }
     }
 }
 
 // The number whose low bits are the sample of place i.
-fn drawn(record: &[u8; 24], x: u32, i: usize) -> u32 {
+fn made(record: &[u8; RECORD], manner: Manner, x: u32, i: usize) -> u32 {
     let level = pair(record[20], record[21]);
-    let period = wide(record[22]) + 1;
-    let manner = record[3];
+    let period = usize::from(record[22]) + 1;
     match manner {
-        0 => pair(record[16 + i % 8], 0),
-        1 => x,
-        2 => level + x % 3,
-        3 => level,
-        4 => x % 2 * 65535,
-        _ => alternating(level, i, period),
+        Manner::Given => u32::from(record[16 + i % 8]),
+        Manner::Noise => x,
+        Manner::FewLevels => level + x % 3,
+        Manner::Flat => level,
+        Manner::Extreme => x % 2 * 65535,
+        Manner::Alternating if i / period % 2 == 0 => level,
+        Manner::Alternating => 65535 - level,
     }
 }
 
-// Those of v's low bits that the top has.
-fn low_bits(v: u32, top: u16) -> u16 {
-    (v % 65536) as u16 & top
-}
-
-fn fill(record: &[u8; 24], top: u16, plane: &mut [u16]) {
-    let mut x = seed(record);
-    let mut i: usize = 0;
-    while i < plane.len() {
-        x = next(x);
-        plane[i] = low_bits(drawn(record, x, i), top);
-        i += 1;
+fn fill(record: &[u8; RECORD], top: u16, plane: &mut [u16]) {
+    let manner = Manner::from(record[3]);
+    let draws = Draws {
+        last: u32::from_le_bytes([record[16], record[17], record[18], record[19]]),
+    };
+    for (i, (sample, x)) in plane.iter_mut().zip(draws).enumerate() {
+        *sample = (made(record, manner, x, i) % 65536) as u16 & top;
     }
 }
 
@@ -106,63 +126,54 @@ fn offset(b: u8) -> i8 {
     (b as i32 - 128) as i8
 }
 
-fn set_of(record: &[u8; 24]) -> Offsets {
-    let kind = record[8];
+fn set_of(record: &[u8; RECORD]) -> Offsets {
     let place = record[9];
-    let o1 = offset(record[10]);
-    let o2 = offset(record[11]);
-    let o3 = offset(record[12]);
-    let o4 = offset(record[13]);
-    match kind {
+    let offsets = Four {
+        o1: offset(record[10]),
+        o2: offset(record[11]),
+        o3: offset(record[12]),
+        o4: offset(record[13]),
+    };
+    match record[8] {
         0 => Offsets::Off,
         1 => Offsets::Band {
             position: place,
-            o1,
-            o2,
-            o3,
-            o4,
+            offsets,
         },
         _ => Offsets::Edge {
             class: place,
-            o1,
-            o2,
-            o3,
-            o4,
+            offsets,
         },
     }
 }
 
 // Offsets are scaled to depths above 10.
-fn layout_of(record: &[u8; 24]) -> Layout {
-    let width = wide(record[0]);
-    let height = wide(record[1]);
-    let depth = pair(record[2], 0);
-    let shift = if depth > 10 { depth - 10 } else { 0 };
+fn layout_of(record: &[u8; RECORD]) -> Layout {
+    let depth = u32::from(record[2]);
     Layout {
-        width,
-        height,
+        width: usize::from(record[0]),
+        height: usize::from(record[1]),
         depth,
-        shift,
+        shift: depth.saturating_sub(10),
     }
 }
 
-fn block_of(record: &[u8; 24]) -> Rectangle {
+fn block_of(record: &[u8; RECORD]) -> Rectangle {
     Rectangle {
-        x0: wide(record[4]),
-        x1: wide(record[5]),
-        y0: wide(record[6]),
-        y1: wide(record[7]),
+        x0: usize::from(record[4]),
+        x1: usize::from(record[5]),
+        y0: usize::from(record[6]),
+        y1: usize::from(record[7]),
     }
 }
 
 // ---- what may be compared
 
-// What an answer said, unless the bit of this weight bars it.
-fn unless_barred(said: bool, bars: u8, weight: u8) -> bool
-    requires { 0 < weight }
+// What an answer said, unless the bit bars it.
+fn unless_barred(said: bool, bars: u8, bit: u8) -> bool
     ensures { result ≡ true → said ≡ true }
 {
-    if bars / weight % 2 == 1 { false } else { said }
+    said && bars & bit == 0
 }
 
 fn with_bars(o: Around, bars: u8) -> Around
@@ -195,34 +206,16 @@ fn is_legal(set: Offsets) -> bool
 fn is_sound(l: Layout, set: Offsets, r: Rectangle) -> bool
     ensures { Tells (Sound l set r) result }
 {
-    if l.width > 255 {
-        return false;
-    }
-    if l.height > 255 {
-        return false;
-    }
-    if l.depth < 8 {
-        return false;
-    }
-    if l.depth > 16 {
-        return false;
-    }
-    if l.shift > 6 {
-        return false;
-    }
-    if r.x0 >= r.x1 {
-        return false;
-    }
-    if r.x1 > l.width {
-        return false;
-    }
-    if r.y0 >= r.y1 {
-        return false;
-    }
-    if r.y1 > l.height {
-        return false;
-    }
-    is_legal(set)
+    l.width <= 255
+        && l.height <= 255
+        && 8 <= l.depth
+        && l.depth <= 16
+        && l.shift <= 6
+        && r.x0 < r.x1
+        && r.x1 <= l.width
+        && r.y0 < r.y1
+        && r.y1 <= l.height
+        && is_legal(set)
 }
 
 fn area(w: usize, h: usize) -> usize
@@ -232,57 +225,77 @@ fn area(w: usize, h: usize) -> usize
     w * h
 }
 
-// Filters the block if the planes are its own and no sample is above the depth, and says so.
-fn filter(l: Layout, set: Offsets, bars: u8, r: Rectangle, plane: &[u16], out: &mut [u16]) -> bool
+// Filters the block if the planes are its own and no sample is above the depth.
+fn filter(
+    l: Layout,
+    set: Offsets,
+    bars: u8,
+    r: Rectangle,
+    plane: &[u16],
+    out: &mut [u16],
+) -> Result<(), Refused>
     requires { Sound l set r }
 {
     let n = area(l.width, l.height);
-    if plane.len() != n {
-        return false;
-    }
-    if out.len() != n {
-        return false;
+    if plane.len() != n || out.len() != n {
+        return Err(Refused::NoPlane);
     }
     let top = planes::top_of(l.depth);
-    if planes::some_above(plane, l.width, l.height, r, top) {
-        return false;
+    let deblocked = Plane {
+        samples: plane,
+        width: l.width,
+        height: l.height,
+    };
+    if deblocked.some_above(r, top) {
+        return Err(Refused::NoPlane);
     }
     let o = with_bars(samples::in_picture(l, r), bars);
     samples::filter_block(l, set, o, r, plane, out);
-    true
+    Ok(())
+}
+
+// Filters the record's block in planes of its size.
+fn filter_said(record: &[u8; RECORD], plane: &mut [u16], out: &mut [u16]) -> Result<(), Refused> {
+    let l = layout_of(record);
+    let set = set_of(record);
+    let r = block_of(record);
+    if !is_sound(l, set, r) {
+        return Err(Refused::NoBlock);
+    }
+    fill(record, planes::top_of(l.depth), plane);
+    filter(l, set, record[15], r, plane, out)
+}
+
+// Filters the record's block in the front of the planes, and answers the filtered one.
+fn filtered<'a>(
+    record: &[u8; RECORD],
+    plane: &mut [u16; PLANE],
+    out: &'a mut [u16; PLANE],
+) -> Result<&'a [u16], Refused> {
+    let n = area(usize::from(record[0]), usize::from(record[1]));
+    if n > PLANE {
+        return Err(Refused::NoRoom);
+    }
+    let out = &mut out[..n];
+    filter_said(record, &mut plane[..n], out)?;
+    Ok(out)
 }
 
 // ---- what is printed
 
-fn number(sample: u16) -> u32 {
-    sample as u32
-}
-
 fn sum(plane: &[u16]) -> u32 {
-    let mut v: u32 = 0;
-    let mut i: usize = 0;
-    while i < plane.len() {
-        v = std::num::wrapping_add_u32(v, number(plane[i]));
-        i += 1;
-    }
-    v
+    plane
+        .iter()
+        .fold(0u32, |v, sample| v.wrapping_add(u32::from(*sample)))
 }
 
 fn second_sum(plane: &[u16]) -> u32 {
-    let mut v: u32 = 1;
-    let mut i: usize = 0;
-    while i < plane.len() {
-        v = next(v ^ number(plane[i]));
-        i += 1;
-    }
-    v
+    sum_after(1, plane.iter().map(|sample| u32::from(*sample)))
 }
 
 fn print_samples(rt: &impl Print, plane: &[u16]) -> io::Result<()> {
-    let mut i: usize = 0;
-    while i < plane.len() {
-        print!(rt; " {}", number(plane[i]))?;
-        i += 1;
+    for sample in plane {
+        print!(rt; " {sample}")?;
     }
     Ok(())
 }
@@ -297,63 +310,24 @@ fn print(rt: &impl Print, plane: &[u16], in_full: bool) -> io::Result<()> {
 
 // ---- record after record
 
-// Filters the record's block in planes of its size, and prints what became of it.
-fn filter_and_print(
-    rt: &impl Print,
-    record: &[u8; 24],
-    plane: &mut [u16],
-    out: &mut [u16],
-) -> io::Result<()> {
-    let l = layout_of(record);
-    let set = set_of(record);
-    let r = block_of(record);
-    if !is_sound(l, set, r) {
-        return print_word(rt, b"no block");
-    }
-    fill(record, planes::top_of(l.depth), plane);
-    let is_filtered = filter(l, set, record[15], r, plane, out);
-    if is_filtered {
-        print(rt, out, record[14] != 0)
-    } else {
-        print_word(rt, b"no plane")
-    }
-}
-
-fn answer(
-    rt: &impl Print,
-    record: &[u8; 24],
-    plane: &mut [u16],
-    out: &mut [u16],
-) -> io::Result<()> {
-    let n = area(wide(record[0]), wide(record[1]));
-    if n > plane.len() {
-        return print_word(rt, b"no room");
-    }
-    if n > out.len() {
-        return print_word(rt, b"no room");
-    }
-    filter_and_print(rt, record, &mut plane[..n], &mut out[..n])
-}
-
-// Answers one record, and says whether there was one.
-fn turn(rt: &impl Print, input: &mut impl Read) -> io::Result<bool> {
-    let mut record = [0u8; 24];
-    if read_full(input, &mut record)? < 24 {
-        return Ok(false);
-    }
+// Filters the record's block, and prints what became of it.
+fn answer(rt: &impl Print, record: &[u8; RECORD]) -> io::Result<()> {
     let mut plane = [0u16; PLANE];
     let mut out = [65535u16; PLANE];
-    answer(rt, &record, &mut plane, &mut out)?;
-    Ok(true)
+    match filtered(record, &mut plane, &mut out) {
+        Ok(out) => print(rt, out, record[14] != 0),
+        Err(refused) => println!(rt; "{refused}"),
+    }
 }
 
-// A proved loop has to end, and nothing says that the input does: so the turns are counted down, from
-// a number that no run uses up.
+// A proved loop has to end, and nothing says that the input does: no run has so many records.
 fn main(rt: HostRuntime) -> io::Result<()> {
     let mut input = rt.stdin();
-    let mut turns = u64::MAX;
-    while turns > 0 && turn(&rt, &mut input)? {
-        turns -= 1;
+    for _ in 0..u64::MAX {
+        let Some(record) = read_record(&mut input)? else {
+            break;
+        };
+        answer(&rt, &record)?;
     }
     Ok(())
 }

@@ -21,207 +21,173 @@
 
 ghost use Rattle.std.specs.Prelude.{◌<◌};
 
-use records::{pair, print_word, read_full, wide};
-use standard::{BitDepths, CtuSet, Picture, SET_BYTES, State, Switches};
-use std::io;
-use std::io::Read;
-use writer::Beside;
+use bins::{BinsError, Form};
+use records::{pair, print_bytes, print_set, read_record};
+use standard::{BitDepths, CtuSet, Picture, Switches};
+use std::{fmt, io};
+use writer::NoRoom;
 
-// A neighbour as the record has it: its set or none, or an entry that is no set within the rules.
+// How many bytes the head of a record has, and how many head and body.
+const HEAD: usize = 72;
+
+const RECORD: usize = HEAD + 56;
+
+// Why a record gets no set and no bins: each is a word of a line.
 #[derive(Clone, Copy)]
-enum Neighbour {
-    Sound(Beside),
-    Bad,
+enum Refused {
+    Description,
+    Neighbour,
+    NoNeighbour,
+    Set,
+    Length,
+    Count,
+    Early,
+    Remain,
 }
 
-// ---- what is printed
-
-// Each byte as two hexadecimal digits.
-fn print_bytes(rt: &impl Print, bytes: &[u8]) -> io::Result<()> {
-    let mut i: usize = 0;
-    while i < bytes.len() {
-        print!(rt; "{:02x}", wide(bytes[i]))?;
-        i += 1;
+impl fmt::Display for Refused {
+    fn fmt<W: fmt::Write>(&self, f: &mut fmt::Formatter<W>) -> fmt::Result {
+        f.write_str(match self {
+            Refused::Description => "description",
+            Refused::Neighbour => "neighbour",
+            Refused::NoNeighbour => "no neighbour",
+            Refused::Set => "set",
+            Refused::Length => "length",
+            Refused::Count => "count",
+            Refused::Early => "early",
+            Refused::Remain => "remain",
+        })
     }
-    Ok(())
 }
 
-fn print_set(rt: &impl Print, q: CtuSet) -> io::Result<()> {
-    let mut bytes = [0u8; SET_BYTES];
-    sets::say_set(&mut bytes, q);
-    print_bytes(rt, &bytes)?;
-    rt.write_all(b"\n")
+impl From<BinsError> for Refused {
+    fn from(error: BinsError) -> Refused {
+        match error {
+            BinsError::TooEarly => Refused::Early,
+            BinsError::BinsRemain => Refused::Remain,
+        }
+    }
+}
+
+// What a record is answered: the set that was read; or how many bins were written, where there was room for
+// them, and all bytes that were lent.
+enum Answer<'a> {
+    Read(CtuSet),
+    Written(Result<usize, NoRoom>, &'a [u8]),
 }
 
 // ---- what a record says
 
-fn picture_of(head: &[u8; 72]) -> Picture {
-    let width = pair(head[62], head[63]);
-    let height = pair(head[64], head[65]);
-    let ctb = pair(head[66], head[67]);
-    let format = head[57];
-    let depth = BitDepths {
-        luma: head[58],
-        chroma: head[59],
-    };
-    let luma = head[60] != 0;
-    let chroma = head[61] != 0;
+fn picture_of(record: &[u8; RECORD]) -> Picture {
     Picture {
-        width,
-        height,
-        ctb,
-        format,
-        depth,
-        luma,
-        chroma,
+        width: pair(record[62], record[63]),
+        height: pair(record[64], record[65]),
+        ctb: pair(record[66], record[67]),
+        format: record[57],
+        depth: BitDepths {
+            luma: record[58],
+            chroma: record[59],
+        },
+        luma: record[60] != 0,
+        chroma: record[61] != 0,
     }
 }
 
-// The neighbour of entry k.
-fn neighbour_at(s: Switches, head: &[u8; 72], is_there: u8, k: usize) -> Neighbour
+// The neighbour of entry k, where there is one.
+fn neighbour(
+    s: Switches,
+    record: &[u8; RECORD],
+    is_there: u8,
+    k: usize,
+) -> Result<Option<CtuSet>, Refused>
     requires { k < 3 }
 {
     if is_there == 0 {
-        return Neighbour::Sound(Beside::Nothing);
+        return Ok(None);
     }
-    match sets::get_set(s, head, k) {
-        sets::Found::Set(q) => Neighbour::Sound(Beside::Set(q)),
-        sets::Found::Bad => Neighbour::Bad,
-    }
+    let set = sets::get_set(s, record, k).ok_or(Refused::Neighbour)?;
+    Ok(Some(set))
 }
 
-// ---- the answers
-
-fn is_there(n: Beside) -> bool {
-    match n {
-        Beside::Nothing => false,
-        Beside::Set(_) => true,
-    }
-}
-
-// The set that a merge copies. Bins merge only with a neighbour that is there: the other arm is never
-// reached.
-fn print_copied(rt: &impl Print, n: Beside) -> io::Result<()> {
-    match n {
-        Beside::Nothing => print_word(rt, b"no neighbour"),
-        Beside::Set(q) => print_set(rt, q),
-    }
-}
-
-// The bytes of the set, or what is wrong with the bins.
-fn read(
-    rt: &impl Print,
+// What the bins of a CTU depend on, and the neighbours that a merge may reach.
+#[derive(Clone, Copy)]
+struct Ctu {
     s: Switches,
-    left: Beside,
-    up: Beside,
-    bytes: &[u8],
-    count: usize,
-) -> io::Result<()>
-    requires { count < 65536 }
-{
-    if (count + 7) / 8 > bytes.len() {
-        return print_word(rt, b"count");
-    }
-    match bins::read_form(s, is_there(left), is_there(up), bytes, count) {
-        bins::Form::Left => print_copied(rt, left),
-        bins::Form::Up => print_copied(rt, up),
-        bins::Form::Full(q) => print_set(rt, q),
-        bins::Form::TooEarly => print_word(rt, b"early"),
-        bins::Form::BinsRemain => print_word(rt, b"remain"),
-    }
+    left: Option<CtuSet>,
+    up: Option<CtuSet>,
 }
 
-// The number of bins, or that there is no room for them; then all bytes that were lent.
-fn write(
-    rt: &impl Print,
-    s: Switches,
-    left: Beside,
-    up: Beside,
-    q: CtuSet,
-    room: &mut [u8],
-) -> io::Result<()> {
-    match writer::write_set(s, left, up, q, room) {
-        writer::Wrote::Bins(n) => print!(rt; "{n}")?,
-        writer::Wrote::NoRoom => rt.write_all(b"no room")?,
+impl Ctu {
+    fn of(record: &[u8; RECORD]) -> Result<Ctu, Refused> {
+        let picture = picture_of(record);
+        if !geometry::is_described(picture) {
+            return Err(Refused::Description);
+        }
+        let s = geometry::switches_in(picture);
+        let left = neighbour(s, record, record[54], 0)?;
+        let up = neighbour(s, record, record[55], 1)?;
+        Ok(Ctu { s, left, up })
     }
-    rt.write_all(b":")?;
-    print_bytes(rt, room)?;
-    rt.write_all(b"\n")
-}
 
-fn write_if_a_set(
-    rt: &impl Print,
-    s: Switches,
-    left: Beside,
-    up: Beside,
-    head: &[u8; 72],
-    room: &mut [u8],
-) -> io::Result<()> {
-    match sets::get_set(s, head, 2) {
-        sets::Found::Set(q) => write(rt, s, left, up, q, room),
-        sets::Found::Bad => print_word(rt, b"set"),
-    }
-}
-
-// Reads or writes, as the record says.
-fn call(
-    rt: &impl Print,
-    s: Switches,
-    left: Beside,
-    up: Beside,
-    head: &[u8; 72],
-    body: &mut [u8],
-) -> io::Result<()> {
-    let count = pair(head[68], head[69]) as usize;
-    let lent = wide(head[70]);
-    if lent > body.len() {
-        return print_word(rt, b"length");
-    }
-    if head[56] == 0 {
-        read(rt, s, left, up, &body[..lent], count)
-    } else {
-        write_if_a_set(rt, s, left, up, head, &mut body[..lent])
-    }
-}
-
-fn answer(rt: &impl Print, head: &[u8; 72], body: &mut [u8]) -> io::Result<()> {
-    let picture = picture_of(head);
-    if !geometry::is_described(picture) {
-        return print_word(rt, b"description");
-    }
-    let s = geometry::switches_of(State { picture, next: 0 });
-    match neighbour_at(s, head, head[54], 0) {
-        Neighbour::Bad => print_word(rt, b"neighbour"),
-        Neighbour::Sound(left) => match neighbour_at(s, head, head[55], 1) {
-            Neighbour::Bad => print_word(rt, b"neighbour"),
-            Neighbour::Sound(up) => call(rt, s, left, up, head, body),
-        },
+    // The set of the bins. They merge only with a neighbour that is there: that one is missing is never answered.
+    fn read(self, bytes: &[u8], count: usize) -> Result<CtuSet, Refused>
+        requires { count < 65536 }
+    {
+        if (count + 7) / 8 > bytes.len() {
+            return Err(Refused::Count);
+        }
+        match bins::read_form(self.s, self.left.is_some(), self.up.is_some(), bytes, count)? {
+            Form::Left => self.left.ok_or(Refused::NoNeighbour),
+            Form::Up => self.up.ok_or(Refused::NoNeighbour),
+            Form::Full(q) => Ok(q),
+        }
     }
 }
 
 // ---- record after record
 
-// Answers one record, and says whether there was one.
-fn turn(rt: &impl Print, input: &mut impl Read) -> io::Result<bool> {
-    let mut head = [0u8; 72];
-    if read_full(input, &mut head)? < 72 {
-        return Ok(false);
+// Reads or writes, as the record says.
+fn answered(record: &mut [u8; RECORD]) -> Result<Answer<'_>, Refused> {
+    let ctu = Ctu::of(record)?;
+    let end = HEAD + usize::from(record[70]);
+    if end > RECORD {
+        return Err(Refused::Length);
     }
-    let mut body = [0u8; 56];
-    if read_full(input, &mut body)? < 56 {
-        return Ok(false);
+    if record[56] == 0 {
+        let count = pair(record[68], record[69]) as usize;
+        let set = ctu.read(&record[HEAD..end], count)?;
+        return Ok(Answer::Read(set));
     }
-    answer(rt, &head, &mut body)?;
-    Ok(true)
+    let set = sets::get_set(ctu.s, record, 2).ok_or(Refused::Set)?;
+    let lent = &mut record[HEAD..end];
+    let bins = writer::write_set(ctu.s, ctu.left, ctu.up, set, lent);
+    Ok(Answer::Written(bins, lent))
 }
 
-// A proved loop has to end, and nothing says that the input does: so the turns are counted down, from
-// a number that no run uses up.
+fn print(rt: &impl Print, answer: Result<Answer, Refused>) -> io::Result<()> {
+    match answer {
+        Err(refused) => print!(rt; "{refused}")?,
+        Ok(Answer::Read(set)) => print_set(rt, set)?,
+        Ok(Answer::Written(Ok(n), lent)) => {
+            print!(rt; "{n}:")?;
+            print_bytes(rt, lent)?
+        }
+        Ok(Answer::Written(Err(NoRoom), lent)) => {
+            print!(rt; "no room:")?;
+            print_bytes(rt, lent)?
+        }
+    }
+    rt.write_all(b"\n")
+}
+
+// A proved loop has to end, and nothing says that the input does: no run has so many records.
 fn main(rt: HostRuntime) -> io::Result<()> {
     let mut input = rt.stdin();
-    let mut turns = u64::MAX;
-    while turns > 0 && turn(&rt, &mut input)? {
-        turns -= 1;
+    for _ in 0..u64::MAX {
+        let Some(mut record) = read_record(&mut input)? else {
+            break;
+        };
+        print(&rt, answered(&mut record))?;
     }
     Ok(())
 }

@@ -25,7 +25,7 @@ pub struct Allowed {
 
 impl Allowed {
     // Whether a mark is outside.
-    pub fn bars(self, mark: u8) -> bool
+    fn bars(self, mark: u8) -> bool
         ensures { Tells (Outside self.low self.high mark) result }
     {
         mark < self.low || self.high < mark

@@ -31,12 +31,15 @@ pub struct Place {
     ghost placed: { Placed width height rectangle },
 }
 
-// A part of a row becomes another.
+// A part of a row becomes another. By a loop: copy_from_slice calls memmove for each row, and off then takes 1.1 times plain C's
+// time, where its target is below 1.
 pub fn copy_row(samples: &[u16], out: &mut [u16])
     requires { length samples.now ≡ length out.old }
     ensures { Filled (length out.old) (λ j. slice_index samples.now j) out.old out.new }
 {
-    out.copy_from_slice(samples);
+    for (i, o) in out.iter_mut().enumerate() {
+        *o = samples[i];
+    }
 }
 
 // Row y of a delivered block. Its samples are themselves a plane, as large as the block.

@@ -34,13 +34,10 @@
 // that is lent and the 64 places after it, as far as there are so many.
 #![tactic(auto)]
 
-ghost use Rattle.std.specs.Prelude.{◌≤◌};
+ghost use Rattle.std.specs.Prelude.{◌≤◌, length};
 
-use records::read_full;
-use standard::{
-    Answer, BitDepths, CtuSet, Picture, ReadAnswer, Refusal, RowsAnswer, SET_BYTES, State,
-    WriteAnswer,
-};
+use records::{Draws, print_set, read_full, read_record, sum_after};
+use standard::{BitDepths, Picture, Refusal, SET_BYTES, State};
 use std::io;
 use std::io::Read;
 
@@ -63,762 +60,489 @@ const BINS: usize = 64;
 // How many places after the lent part of a buffer are summed with it.
 const GUARD: usize = 64;
 
-// How much of each buffer is lent.
+// ---- commands
+
+// A command, by its number; those that are calls apart.
 #[derive(Clone, Copy)]
-struct Lent {
-    y: usize,
-    cb: usize,
-    cr: usize,
-    out_y: usize,
-    out_cb: usize,
-    out_cr: usize,
-    marks: usize,
-    table: usize,
+enum Command {
+    State,
+    Lengths,
+    Fill,
+    Poke,
+    Call(Call),
 }
 
-// What one command leaves to the next, besides the buffers.
 #[derive(Clone, Copy)]
-struct Kept {
-    state: State,
-    lent: Lent,
-    more: bool,
+enum Call {
+    Open,
+    Read,
+    Write,
+    Deliver,
+    Filter,
+    Rows,
 }
 
-// ---- numbers
+impl From<u8> for Command {
+    fn from(number: u8) -> Command {
+        match number {
+            0 => Command::State,
+            1 => Command::Lengths,
+            2 => Command::Fill,
+            3 => Command::Poke,
+            4 => Command::Call(Call::Open),
+            5 => Command::Call(Call::Read),
+            6 => Command::Call(Call::Write),
+            7 => Command::Call(Call::Deliver),
+            8 => Command::Call(Call::Filter),
+            _ => Command::Call(Call::Rows),
+        }
+    }
+}
 
-fn four(a: u8, b: u8, c: u8, d: u8) -> u32 {
-    records::pair(a, b) + 65536 * records::pair(c, d)
+#[derive(Clone, Copy)]
+struct Head {
+    command: Command,
+    a: u8,
+    b: u8,
+    c: u8,
+    n: u32,
+}
+
+impl Head {
+    fn of(bytes: [u8; 8]) -> Head {
+        let [command, a, b, c, n0, n1, n2, n3] = bytes;
+        Head {
+            command: Command::from(command),
+            a,
+            b,
+            c,
+            n: u32::from_le_bytes([n0, n1, n2, n3]),
+        }
+    }
 }
 
 fn length_of(low: u8, high: u8) -> usize {
-    records::pair(low, high) as usize
+    usize::from(u16::from_le_bytes([low, high]))
 }
 
-// The number n of a head.
-fn n_of(head: &[u8; 8]) -> u32 {
-    four(head[4], head[5], head[6], head[7])
+// ---- buffers
+
+// What a place of a buffer holds: the low bits of a number.
+trait Place: Copy + Into<u32> {
+    fn low_bits(n: u32) -> Self;
 }
 
-fn sample_of(n: u32) -> u16 {
-    (n % 65536) as u16
-}
-
-fn byte_of(n: u32) -> u8 {
-    (n % 256) as u8
-}
-
-fn at_most(n: usize, limit: usize) -> usize
-    ensures { result ≤ limit }
-{
-    if n < limit { n } else { limit }
-}
-
-// xorshift32
-fn next(x: u32) -> u32 {
-    let a = x ^ (x << 13);
-    let b = a ^ (a >> 17);
-    b ^ (b << 5)
-}
-
-// ---- sums
-
-fn number_of_sample(sample: u16) -> u32 {
-    sample as u32
-}
-
-fn number_of_byte(byte: u8) -> u32 {
-    byte as u32
-}
-
-fn number_of_switch(is_on: bool) -> u32 {
-    if is_on { 1 } else { 0 }
-}
-
-// How much of a buffer is summed.
-fn guarded(lent: usize, whole: usize) -> usize
-    ensures { result ≤ whole }
-{
-    let part = at_most(lent, whole);
-    part + at_most(GUARD, whole - part)
-}
-
-fn sum_of_samples(sum: u32, samples: &[u16], lent: usize) -> u32 {
-    let end = guarded(lent, samples.len());
-    let mut v = sum;
-    let mut i: usize = 0;
-    while i < end {
-        v = next(v ^ number_of_sample(samples[i]));
-        i += 1;
+impl Place for u16 {
+    fn low_bits(n: u32) -> u16 {
+        (n % 65536) as u16
     }
-    v
 }
 
-fn sum_of_bytes(sum: u32, bytes: &[u8], lent: usize) -> u32 {
-    let end = guarded(lent, bytes.len());
-    let mut v = sum;
-    let mut i: usize = 0;
-    while i < end {
-        v = next(v ^ number_of_byte(bytes[i]));
-        i += 1;
+impl Place for u8 {
+    fn low_bits(n: u32) -> u8 {
+        (n % 256) as u8
     }
-    v
 }
 
-fn sum_of_deblocked(lent: Lent, y: &[u16], cb: &[u16], cr: &[u16]) -> u32 {
-    let luma = sum_of_samples(1, y, lent.y);
-    sum_of_samples(sum_of_samples(luma, cb, lent.cb), cr, lent.cr)
+// A buffer, and how much of it is lent.
+#[derive(Drop)]
+struct Buffer<'a, T> {
+    places: &'a mut [T],
+    lent: usize,
 }
 
-fn sum_of_filtered(lent: Lent, out_y: &[u16], out_cb: &[u16], out_cr: &[u16]) -> u32 {
-    let luma = sum_of_samples(1, out_y, lent.out_y);
-    sum_of_samples(
-        sum_of_samples(luma, out_cb, lent.out_cb),
-        out_cr,
-        lent.out_cr,
-    )
+impl<T: Place> Buffer<'_, T> {
+    fn lent(&self) -> &[T] {
+        let n = self.lent.min(self.places.len());
+        &self.places[..n]
+    }
+
+    fn lent_mut(&mut self) -> &mut [T] {
+        let n = self.lent.min(self.places.len());
+        &mut self.places[..n]
+    }
+
+    // All places become the low bits of the numbers that are drawn.
+    fn fill(&mut self, draws: &mut Draws) {
+        for (place, n) in self.places.iter_mut().zip(draws) {
+            *place = T::low_bits(n);
+        }
+    }
+
+    fn poke(&mut self, at: usize, n: u32) {
+        if at < self.places.len() {
+            self.places[at] = T::low_bits(n);
+        }
+    }
+
+    // A sum, gone on with over what is lent and the places after it.
+    fn sum_after(&self, sum: u32) -> u32 {
+        let n = self.lent.saturating_add(GUARD);
+        sum_after(sum, self.places.iter().take(n).map(|x| (*x).into()))
+    }
 }
 
-fn sum_of_picture(sum: u32, p: Picture) -> u32 {
-    let size = next(next(next(sum ^ p.width) ^ p.height) ^ p.ctb);
-    let d = p.depth;
-    let format = next(size ^ number_of_byte(p.format));
-    let samples = next(next(format ^ number_of_byte(d.luma)) ^ number_of_byte(d.chroma));
-    next(next(samples ^ number_of_switch(p.luma)) ^ number_of_switch(p.chroma))
+// The planes of the three components.
+#[derive(Drop)]
+struct Planes<'a> {
+    y: Buffer<'a, u16>,
+    cb: Buffer<'a, u16>,
+    cr: Buffer<'a, u16>,
 }
 
-fn sum_of_state(state: State) -> u32 {
-    next(sum_of_picture(1, state.picture) ^ state.next)
+impl Planes<'_> {
+    fn fill(&mut self, draws: &mut Draws) {
+        self.y.fill(draws);
+        self.cb.fill(draws);
+        self.cr.fill(draws);
+    }
+
+    fn poke(&mut self, plane: u8, at: usize, n: u32) {
+        match plane {
+            0 => self.y.poke(at, n),
+            1 => self.cb.poke(at, n),
+            _ => self.cr.poke(at, n),
+        }
+    }
+
+    fn sum(&self) -> u32 {
+        self.cr.sum_after(self.cb.sum_after(self.y.sum_after(1)))
+    }
 }
 
 // ---- what is printed
 
-fn print_number(rt: &impl Print, n: usize) -> io::Result<()> {
-    print!(rt; " {n}")
+fn sum_of_state(state: State) -> u32 {
+    let p = state.picture;
+    let numbers = [
+        p.width,
+        p.height,
+        p.ctb,
+        u32::from(p.format),
+        u32::from(p.depth.luma),
+        u32::from(p.depth.chroma),
+        u32::from(p.luma),
+        u32::from(p.chroma),
+        state.next,
+    ];
+    sum_after(1, numbers.iter().copied())
 }
 
 fn print_sum(rt: &impl Print, sum: u32) -> io::Result<()> {
     print!(rt; " {sum:08x}")
 }
 
-// Each byte as two hexadecimal digits.
-fn print_bytes(rt: &impl Print, bytes: &[u8]) -> io::Result<()> {
-    let mut i: usize = 0;
-    while i < bytes.len() {
-        print!(rt; "{:02x}", records::wide(bytes[i]))?;
-        i += 1;
+// The refusal's number, or 0; what else is answered is handed on to be printed.
+fn print_answer<T: Drop>(rt: &impl Print, answer: Result<T, Refusal>) -> io::Result<Option<T>> {
+    match answer {
+        Ok(value) => {
+            print!(rt; " 0")?;
+            Ok(Some(value))
+        }
+        Err(refusal) => {
+            print!(rt; " {}", refusal.number())?;
+            Ok(None)
+        }
+    }
+}
+
+fn print_number(rt: &impl Print, answer: Result<usize, Refusal>) -> io::Result<()> {
+    if let Some(n) = print_answer(rt, answer)? {
+        print!(rt; " {n}")?;
     }
     Ok(())
 }
 
-fn print_set(rt: &impl Print, q: CtuSet) -> io::Result<()> {
-    let mut set = [0u8; SET_BYTES];
-    sets::say_set(&mut set, q);
-    rt.write_all(b" ")?;
-    print_bytes(rt, &set)
-}
-
-fn print_refusal(rt: &impl Print, r: Refusal) -> io::Result<()> {
-    print_number(rt, r.number() as usize)
-}
-
-fn print_answer(rt: &impl Print, a: Answer) -> io::Result<()> {
-    match a {
-        Answer::Done => print_number(rt, 0),
-        Answer::Refused(r) => print_refusal(rt, r),
-    }
-}
-
-fn print_read(rt: &impl Print, a: ReadAnswer) -> io::Result<()> {
-    match a {
-        ReadAnswer::Set(q) => {
-            print_number(rt, 0)?;
-            print_set(rt, q)
-        }
-        ReadAnswer::Refused(r) => print_refusal(rt, r),
-    }
-}
-
-fn print_written(rt: &impl Print, a: WriteAnswer) -> io::Result<()> {
-    match a {
-        WriteAnswer::Bins(n) => {
-            print_number(rt, 0)?;
-            print_number(rt, n)
-        }
-        WriteAnswer::Refused(r) => print_refusal(rt, r),
-    }
-}
-
-fn print_rows(rt: &impl Print, a: RowsAnswer) -> io::Result<()> {
-    match a {
-        RowsAnswer::Rows(n) => {
-            print_number(rt, 0)?;
-            print_number(rt, n)
-        }
-        RowsAnswer::Refused(r) => print_refusal(rt, r),
-    }
-}
-
-// ---- the calls
-
-fn open(rt: &impl Print, state: State, lent: Lent, marks: &mut [u8]) -> io::Result<State> {
-    rt.write_all(b"o")?;
-    let n = at_most(lent.marks, marks.len());
-    let o = opening::open(state, &mut marks[..n]);
-    let a = o.answer;
-    print_answer(rt, a)?;
-    let after = o.state;
-    Ok(after)
-}
-
-fn count_of(n: u32, is_from_above: bool) -> usize {
-    if is_from_above {
-        usize::MAX - n as usize
-    } else {
-        n as usize
-    }
-}
-
-fn read_into(
-    rt: &impl Print,
-    input: &mut impl Read,
-    state: State,
-    head: &[u8; 8],
-    bytes: &mut [u8],
-    table: &mut [u8],
-) -> io::Result<State> {
-    let given = at_most(records::wide(head[1]), bytes.len());
-    read_full(input, &mut bytes[..given])?;
-    let count = count_of(n_of(head), head[2] != 0);
-    let o = reading::read(state, &bytes[..given], count, table);
-    let a = o.answer;
-    print_read(rt, a)?;
-    let after = o.state;
-    Ok(after)
-}
-
-fn read(
-    rt: &impl Print,
-    input: &mut impl Read,
-    state: State,
-    lent: Lent,
-    head: &[u8; 8],
-    table: &mut [u8],
-) -> io::Result<State> {
-    rt.write_all(b"r")?;
-    let n = at_most(lent.table, table.len());
-    let mut bytes = [0u8; BINS];
-    read_into(rt, input, state, head, &mut bytes, &mut table[..n])
-}
-
-fn write_into(
-    rt: &impl Print,
-    state: State,
-    head: &[u8; 8],
-    q: CtuSet,
-    room: &mut [u8],
-    table: &mut [u8],
-) -> io::Result<State> {
-    let lent = at_most(records::wide(head[1]), room.len());
-    let o = writing::write(state, q, &mut room[..lent], table);
-    let a = o.answer;
-    print_written(rt, a)?;
-    print_sum(rt, sum_of_bytes(1, room, room.len()))?;
-    let after = o.state;
-    Ok(after)
-}
-
-fn write(
-    rt: &impl Print,
-    input: &mut impl Read,
-    state: State,
-    lent: Lent,
-    head: &[u8; 8],
-    table: &mut [u8],
-) -> io::Result<State> {
-    rt.write_all(b"w")?;
-    let n = at_most(lent.table, table.len());
-    let mut set = [0u8; SET_BYTES];
-    read_full(input, &mut set)?;
-    let mut room = [head[2]; BINS];
-    write_into(
-        rt,
-        state,
-        head,
-        sets::set_said(&set),
-        &mut room,
-        &mut table[..n],
-    )
-}
-
-fn made(samples: &mut [u16], base: u16, spread: u16, seed: u32) {
-    let mut x = seed;
-    let mut i: usize = 0;
-    while i < samples.len() {
-        x = next(x);
-        samples[i] = base ^ (sample_of(x) & spread);
-        i += 1;
-    }
-}
-
-fn put_sample(samples: &mut [u16], place: usize, sample: u16) {
-    if place < samples.len() {
-        samples[place] = sample;
-    }
-}
-
-fn put_byte(bytes: &mut [u8], place: usize, byte: u8) {
-    if place < bytes.len() {
-        bytes[place] = byte;
-    }
-}
-
-// Puts in a sample that the input has more, at its place.
-fn put_in(input: &mut impl Read, samples: &mut [u16]) -> io::Result<()> {
-    let mut more = [0u8; 4];
-    read_full(input, &mut more)?;
-    let place = length_of(more[0], more[1]);
-    put_sample(samples, place, sample_of(records::pair(more[2], more[3])));
-    Ok(())
-}
-
-fn put_in_all(input: &mut impl Read, samples: &mut [u16], times: u8) -> io::Result<()> {
-    let mut left = times;
-    while left > 0 {
-        put_in(input, samples)?;
-        left -= 1;
-    }
-    Ok(())
-}
-
-// The samples, made in the lent ones; answers how many there are.
-fn made_given(input: &mut impl Read, head: &[u8; 8], samples: &mut [u16]) -> io::Result<usize> {
-    let mut more = [0u8; 10];
-    read_full(input, &mut more)?;
-    let base = sample_of(records::pair(more[2], more[3]));
-    let spread = sample_of(records::pair(more[4], more[5]));
-    made(
-        samples,
-        base,
-        spread,
-        four(more[6], more[7], more[8], more[9]),
-    );
-    put_in_all(input, samples, head[2])?;
-    Ok(length_of(more[0], more[1]))
-}
-
-fn deliver_from(
-    rt: &impl Print,
-    input: &mut impl Read,
-    state: State,
-    head: &[u8; 8],
-    samples: &mut [u16],
-    y: &mut [u16],
-    cb: &mut [u16],
-    cr: &mut [u16],
-    marks: &mut [u8],
-) -> io::Result<State> {
-    let given = at_most(made_given(input, head, samples)?, samples.len());
-    let o = delivering::deliver(
-        state,
-        head[1],
-        n_of(head),
-        &samples[..given],
-        y,
-        cb,
-        cr,
-        marks,
-    );
-    let a = o.answer;
-    print_answer(rt, a)?;
-    let after = o.state;
-    Ok(after)
-}
-
-fn deliver(
-    rt: &impl Print,
-    input: &mut impl Read,
-    state: State,
-    lent: Lent,
-    head: &[u8; 8],
-    y: &mut [u16],
-    cb: &mut [u16],
-    cr: &mut [u16],
-    marks: &mut [u8],
-) -> io::Result<State> {
-    rt.write_all(b"d")?;
-    let ny = at_most(lent.y, y.len());
-    let ncb = at_most(lent.cb, cb.len());
-    let ncr = at_most(lent.cr, cr.len());
-    let n = at_most(lent.marks, marks.len());
-    let mut samples = [0u16; DELIVERY];
-    deliver_from(
-        rt,
-        input,
-        state,
-        head,
-        &mut samples,
-        &mut y[..ny],
-        &mut cb[..ncb],
-        &mut cr[..ncr],
-        &mut marks[..n],
-    )
-}
-
-fn filter(
-    rt: &impl Print,
-    state: State,
-    lent: Lent,
-    head: &[u8; 8],
-    y: &[u16],
-    cb: &[u16],
-    cr: &[u16],
-    out_y: &mut [u16],
-    out_cb: &mut [u16],
-    out_cr: &mut [u16],
-    marks: &mut [u8],
-    table: &[u8],
-) -> io::Result<State> {
-    rt.write_all(b"f")?;
-    let ny = at_most(lent.y, y.len());
-    let ncb = at_most(lent.cb, cb.len());
-    let ncr = at_most(lent.cr, cr.len());
-    let my = at_most(lent.out_y, out_y.len());
-    let mcb = at_most(lent.out_cb, out_cb.len());
-    let mcr = at_most(lent.out_cr, out_cr.len());
-    let nm = at_most(lent.marks, marks.len());
-    let nt = at_most(lent.table, table.len());
-    let o = filtering::filter(
-        state,
-        head[1],
-        n_of(head),
-        &y[..ny],
-        &cb[..ncb],
-        &cr[..ncr],
-        &mut out_y[..my],
-        &mut out_cb[..mcb],
-        &mut out_cr[..mcr],
-        &mut marks[..nm],
-        &table[..nt],
-    );
-    let a = o.answer;
-    print_answer(rt, a)?;
-    let after = o.state;
-    Ok(after)
-}
-
-fn rows_of<'a>(
-    rt: &impl Print,
-    state: State,
-    component: u8,
-    out_y: &'a [u16],
-    out_cb: &'a [u16],
-    out_cr: &'a [u16],
-    marks: &[u8],
-) -> io::Result<State> {
-    let o = finishing::finished_count(state, component, out_y, out_cb, out_cr, marks);
-    let a = o.answer;
-    print_rows(rt, a)?;
-    let part = finishing::finished_rows(state, component, out_y, out_cb, out_cr, marks);
-    print_number(rt, part.len())?;
-    print_sum(rt, sum_of_samples(1, part, part.len()))?;
-    let after = o.state;
-    Ok(after)
-}
-
-fn rows<'a>(
-    rt: &impl Print,
-    state: State,
-    lent: Lent,
-    head: &[u8; 8],
-    out_y: &'a [u16],
-    out_cb: &'a [u16],
-    out_cr: &'a [u16],
-    marks: &[u8],
-) -> io::Result<State> {
-    rt.write_all(b"n")?;
-    let ny = at_most(lent.out_y, out_y.len());
-    let ncb = at_most(lent.out_cb, out_cb.len());
-    let ncr = at_most(lent.out_cr, out_cr.len());
-    let n = at_most(lent.marks, marks.len());
-    rows_of(
-        rt,
-        state,
-        head[1],
-        &out_y[..ny],
-        &out_cb[..ncb],
-        &out_cr[..ncr],
-        &marks[..n],
-    )
-}
-
-// ---- what is kept
+// ---- what the input has after a head
 
 fn picture_of(m: &[u8; 21]) -> Picture {
-    let width = four(m[0], m[1], m[2], m[3]);
-    let height = four(m[4], m[5], m[6], m[7]);
-    let ctb = four(m[8], m[9], m[10], m[11]);
-    let format = m[12];
-    let depth = BitDepths {
-        luma: m[13],
-        chroma: m[14],
-    };
-    let luma = m[15] != 0;
-    let chroma = m[16] != 0;
     Picture {
-        width,
-        height,
-        ctb,
-        format,
-        depth,
-        luma,
-        chroma,
+        width: u32::from_le_bytes([m[0], m[1], m[2], m[3]]),
+        height: u32::from_le_bytes([m[4], m[5], m[6], m[7]]),
+        ctb: u32::from_le_bytes([m[8], m[9], m[10], m[11]]),
+        format: m[12],
+        depth: BitDepths {
+            luma: m[13],
+            chroma: m[14],
+        },
+        luma: m[15] != 0,
+        chroma: m[16] != 0,
     }
 }
 
 fn read_state(input: &mut impl Read) -> io::Result<State> {
     let mut m = [0u8; 21];
     read_full(input, &mut m)?;
-    let picture = picture_of(&m);
-    let next = four(m[17], m[18], m[19], m[20]);
-    Ok(State { picture, next })
+    Ok(State {
+        picture: picture_of(&m),
+        next: u32::from_le_bytes([m[17], m[18], m[19], m[20]]),
+    })
 }
 
-fn read_lengths(input: &mut impl Read) -> io::Result<Lent> {
-    let mut m = [0u8; 16];
+// Puts in a sample that the input has more, at its place.
+fn put_in(input: &mut impl Read, samples: &mut Buffer<'_, u16>) -> io::Result<()> {
+    let mut m = [0u8; 4];
     read_full(input, &mut m)?;
-    Ok(Lent {
-        y: length_of(m[0], m[1]),
-        cb: length_of(m[2], m[3]),
-        cr: length_of(m[4], m[5]),
-        out_y: length_of(m[6], m[7]),
-        out_cb: length_of(m[8], m[9]),
-        out_cr: length_of(m[10], m[11]),
-        marks: length_of(m[12], m[13]),
-        table: length_of(m[14], m[15]),
-    })
+    samples.poke(length_of(m[0], m[1]), records::pair(m[2], m[3]));
+    Ok(())
 }
 
-// Answers the last number drawn.
-fn fill_samples(seed: u32, samples: &mut [u16]) -> u32 {
-    let mut x = seed;
-    let mut i: usize = 0;
-    while i < samples.len() {
-        x = next(x);
-        samples[i] = sample_of(x);
-        i += 1;
+// The samples of a delivery, made in a buffer: so many are lent.
+fn make_samples(input: &mut impl Read, times: u8, samples: &mut Buffer<'_, u16>) -> io::Result<()> {
+    let mut m = [0u8; 10];
+    read_full(input, &mut m)?;
+    let base = u16::from_le_bytes([m[2], m[3]]);
+    let spread = u16::from_le_bytes([m[4], m[5]]);
+    let draws = Draws {
+        last: u32::from_le_bytes([m[6], m[7], m[8], m[9]]),
+    };
+    for (sample, x) in samples.places.iter_mut().zip(draws) {
+        *sample = base ^ (u16::low_bits(x) & spread);
     }
-    x
-}
-
-fn fill_bytes(seed: u32, bytes: &mut [u8]) -> u32 {
-    let mut x = seed;
-    let mut i: usize = 0;
-    while i < bytes.len() {
-        x = next(x);
-        bytes[i] = byte_of(x);
-        i += 1;
+    for _ in 0..times {
+        put_in(input, samples)?;
     }
-    x
+    samples.lent = length_of(m[0], m[1]);
+    Ok(())
 }
 
-fn fill_planes(seed: u32, y: &mut [u16], cb: &mut [u16], cr: &mut [u16]) -> u32 {
-    fill_samples(fill_samples(fill_samples(seed, y), cb), cr)
+// ---- a run
+
+// What one command leaves to the next: the state, and the buffers.
+#[derive(Drop)]
+struct Run<'a> {
+    state: State,
+    deblocked: Planes<'a>,
+    filtered: Planes<'a>,
+    marks: Buffer<'a, u8>,
+    table: Buffer<'a, u8>,
 }
 
-fn fill(
-    seed: u32,
-    y: &mut [u16],
-    cb: &mut [u16],
-    cr: &mut [u16],
-    out_y: &mut [u16],
-    out_cb: &mut [u16],
-    out_cr: &mut [u16],
-    marks: &mut [u8],
-    table: &mut [u8],
-) {
-    let x = fill_planes(seed, y, cb, cr);
-    let z = fill_planes(x, out_y, out_cb, out_cr);
-    fill_bytes(fill_bytes(z, marks), table);
-}
+impl Run<'_> {
+    // ---- commands that are no calls
 
-fn poke_plane(plane: u8, place: usize, sample: u16, y: &mut [u16], cb: &mut [u16], cr: &mut [u16]) {
-    match plane {
-        0 => put_sample(y, place, sample),
-        1 => put_sample(cb, place, sample),
-        _ => put_sample(cr, place, sample),
+    fn read_lengths(&mut self, input: &mut impl Read) -> io::Result<()> {
+        let mut m = [0u8; 16];
+        read_full(input, &mut m)?;
+        self.deblocked.y.lent = length_of(m[0], m[1]);
+        self.deblocked.cb.lent = length_of(m[2], m[3]);
+        self.deblocked.cr.lent = length_of(m[4], m[5]);
+        self.filtered.y.lent = length_of(m[6], m[7]);
+        self.filtered.cb.lent = length_of(m[8], m[9]);
+        self.filtered.cr.lent = length_of(m[10], m[11]);
+        self.marks.lent = length_of(m[12], m[13]);
+        self.table.lent = length_of(m[14], m[15]);
+        Ok(())
     }
-}
 
-fn poke(
-    head: &[u8; 8],
-    y: &mut [u16],
-    cb: &mut [u16],
-    cr: &mut [u16],
-    out_y: &mut [u16],
-    out_cb: &mut [u16],
-    out_cr: &mut [u16],
-    marks: &mut [u8],
-    table: &mut [u8],
-) {
-    let buffer = head[1];
-    let place = length_of(head[2], head[3]);
-    let n = n_of(head);
-    match buffer {
-        0..=2 => poke_plane(buffer, place, sample_of(n), y, cb, cr),
-        3..=5 => poke_plane(buffer - 3, place, sample_of(n), out_y, out_cb, out_cr),
-        6 => put_byte(marks, place, byte_of(n)),
-        _ => put_byte(table, place, byte_of(n)),
+    fn fill(&mut self, seed: u32) {
+        let mut draws = Draws { last: seed };
+        self.deblocked.fill(&mut draws);
+        self.filtered.fill(&mut draws);
+        self.marks.fill(&mut draws);
+        self.table.fill(&mut draws);
     }
-}
 
-// ---- command after command
-
-// A command that is no call.
-fn change(
-    input: &mut impl Read,
-    head: &[u8; 8],
-    k: Kept,
-    y: &mut [u16],
-    cb: &mut [u16],
-    cr: &mut [u16],
-    out_y: &mut [u16],
-    out_cb: &mut [u16],
-    out_cr: &mut [u16],
-    marks: &mut [u8],
-    table: &mut [u8],
-) -> io::Result<Kept> {
-    let state = k.state;
-    let lent = k.lent;
-    let command = head[0];
-    match command {
-        0 => Ok(Kept {
-            state: read_state(input)?,
-            lent,
-            more: true,
-        }),
-        1 => Ok(Kept {
-            state,
-            lent: read_lengths(input)?,
-            more: true,
-        }),
-        2 => {
-            fill(n_of(head), y, cb, cr, out_y, out_cb, out_cr, marks, table);
-            Ok(k)
-        }
-        _ => {
-            poke(head, y, cb, cr, out_y, out_cb, out_cr, marks, table);
-            Ok(k)
+    fn poke(&mut self, head: Head) {
+        let at = length_of(head.b, head.c);
+        match head.a {
+            0..=2 => self.deblocked.poke(head.a, at, head.n),
+            3..=5 => self.filtered.poke(head.a - 3, at, head.n),
+            6 => self.marks.poke(at, head.n),
+            _ => self.table.poke(at, head.n),
         }
     }
-}
 
-// A command that is a call. Each is lent the leading parts of its buffers.
-fn call(
-    rt: &impl Print,
-    input: &mut impl Read,
-    head: &[u8; 8],
-    k: Kept,
-    y: &mut [u16],
-    cb: &mut [u16],
-    cr: &mut [u16],
-    out_y: &mut [u16],
-    out_cb: &mut [u16],
-    out_cr: &mut [u16],
-    marks: &mut [u8],
-    table: &mut [u8],
-) -> io::Result<State> {
-    let s = k.state;
-    let lent = k.lent;
-    let command = head[0];
-    match command {
-        4 => open(rt, s, lent, marks),
-        5 => read(rt, input, s, lent, head, table),
-        6 => write(rt, input, s, lent, head, table),
-        7 => deliver(rt, input, s, lent, head, y, cb, cr, marks),
-        8 => filter(
-            rt, s, lent, head, y, cb, cr, out_y, out_cb, out_cr, marks, table,
-        ),
-        _ => rows(rt, s, lent, head, out_y, out_cb, out_cr, marks),
-    }
-}
+    // ---- the calls, each on the leading parts of its buffers
 
-// Makes one command, and says whether there was one.
-fn turn(
-    rt: &impl Print,
-    input: &mut impl Read,
-    k: Kept,
-    y: &mut [u16; PLANE],
-    cb: &mut [u16; PLANE],
-    cr: &mut [u16; PLANE],
-    out_y: &mut [u16; PLANE],
-    out_cb: &mut [u16; PLANE],
-    out_cr: &mut [u16; PLANE],
-    marks: &mut [u8; MARKS],
-    table: &mut [u8; TABLE],
-) -> io::Result<Kept> {
-    let mut head = [0u8; 8];
-    let lent = k.lent;
-    if read_full(input, &mut head)? < 8 {
-        let state = k.state;
-        return Ok(Kept {
-            state,
-            lent,
-            more: false,
-        });
+    fn open(&mut self, rt: &impl Print) -> io::Result<()> {
+        rt.write_all(b"o")?;
+        let o = opening::open(self.state, self.marks.lent_mut());
+        self.state = o.state;
+        print_answer(rt, o.answer)?;
+        Ok(())
     }
-    if head[0] < 4 {
-        return change(
-            input, &head, k, y, cb, cr, out_y, out_cb, out_cr, marks, table,
+
+    fn read(&mut self, rt: &impl Print, input: &mut impl Read, head: Head) -> io::Result<()> {
+        rt.write_all(b"r")?;
+        let mut bytes = [0u8; BINS];
+        let n = usize::from(head.a).min(BINS);
+        let bins = &mut bytes[..n];
+        read_full(input, bins)?;
+        let count = if head.b != 0 {
+            usize::MAX - head.n as usize
+        } else {
+            head.n as usize
+        };
+        let o = reading::read(self.state, bins, count, self.table.lent_mut());
+        self.state = o.state;
+        if let Some(set) = print_answer(rt, o.answer)? {
+            rt.write_all(b" ")?;
+            print_set(rt, set)?;
+        }
+        Ok(())
+    }
+
+    fn write(&mut self, rt: &impl Print, input: &mut impl Read, head: Head) -> io::Result<()> {
+        rt.write_all(b"w")?;
+        let mut set = [0u8; SET_BYTES];
+        read_full(input, &mut set)?;
+        let mut room = [head.b; BINS];
+        let n = usize::from(head.a).min(BINS);
+        let o = writing::write(
+            self.state,
+            sets::set_said(&set),
+            &mut room[..n],
+            self.table.lent_mut(),
         );
+        self.state = o.state;
+        print_number(rt, o.answer)?;
+        print_sum(rt, sum_after(1, room.iter().map(|b| u32::from(*b))))
     }
-    let state = call(
-        rt, input, &head, k, y, cb, cr, out_y, out_cb, out_cr, marks, table,
-    )?;
-    print_sum(rt, sum_of_state(state))?;
-    print_sum(rt, sum_of_deblocked(lent, y, cb, cr))?;
-    print_sum(rt, sum_of_filtered(lent, out_y, out_cb, out_cr))?;
-    print_sum(rt, sum_of_bytes(1, marks, lent.marks))?;
-    print_sum(rt, sum_of_bytes(1, table, lent.table))?;
-    rt.write_all(b"\n")?;
-    Ok(Kept {
-        state,
-        lent,
-        more: true,
-    })
+
+    fn deliver(&mut self, rt: &impl Print, input: &mut impl Read, head: Head) -> io::Result<()> {
+        rt.write_all(b"d")?;
+        let mut places = [0u16; DELIVERY];
+        let mut samples = Buffer {
+            places: &mut places,
+            lent: 0,
+        };
+        make_samples(input, head.b, &mut samples)?;
+        let Planes { y, cb, cr } = &mut self.deblocked;
+        let o = delivering::deliver(
+            self.state,
+            head.a,
+            head.n,
+            samples.lent(),
+            y.lent_mut(),
+            cb.lent_mut(),
+            cr.lent_mut(),
+            self.marks.lent_mut(),
+        );
+        self.state = o.state;
+        print_answer(rt, o.answer)?;
+        Ok(())
+    }
+
+    fn filter(&mut self, rt: &impl Print, head: Head) -> io::Result<()> {
+        rt.write_all(b"f")?;
+        let deblocked = &self.deblocked;
+        let Planes { y, cb, cr } = &mut self.filtered;
+        let o = filtering::filter(
+            self.state,
+            head.a,
+            head.n,
+            deblocked.y.lent(),
+            deblocked.cb.lent(),
+            deblocked.cr.lent(),
+            y.lent_mut(),
+            cb.lent_mut(),
+            cr.lent_mut(),
+            self.marks.lent_mut(),
+            self.table.lent(),
+        );
+        self.state = o.state;
+        print_answer(rt, o.answer)?;
+        Ok(())
+    }
+
+    fn rows(&mut self, rt: &impl Print, head: Head) -> io::Result<()> {
+        rt.write_all(b"n")?;
+        let Planes { y, cb, cr } = &self.filtered;
+        let o = finishing::finished_count(
+            self.state,
+            head.a,
+            y.lent(),
+            cb.lent(),
+            cr.lent(),
+            self.marks.lent(),
+        );
+        print_number(rt, o.answer)?;
+        let part = finishing::finished_rows(
+            self.state,
+            head.a,
+            y.lent(),
+            cb.lent(),
+            cr.lent(),
+            self.marks.lent(),
+        );
+        print!(rt; " {}", part.len())?;
+        print_sum(rt, sum_after(1, part.iter().map(|s| u32::from(*s))))?;
+        self.state = o.state;
+        Ok(())
+    }
+
+    fn call(
+        &mut self,
+        rt: &impl Print,
+        input: &mut impl Read,
+        call: Call,
+        head: Head,
+    ) -> io::Result<()> {
+        match call {
+            Call::Open => self.open(rt),
+            Call::Read => self.read(rt, input, head),
+            Call::Write => self.write(rt, input, head),
+            Call::Deliver => self.deliver(rt, input, head),
+            Call::Filter => self.filter(rt, head),
+            Call::Rows => self.rows(rt, head),
+        }
+    }
+
+    fn print_sums(&self, rt: &impl Print) -> io::Result<()> {
+        print_sum(rt, sum_of_state(self.state))?;
+        print_sum(rt, self.deblocked.sum())?;
+        print_sum(rt, self.filtered.sum())?;
+        print_sum(rt, self.marks.sum_after(1))?;
+        print_sum(rt, self.table.sum_after(1))?;
+        rt.write_all(b"\n")
+    }
+
+    fn command(&mut self, rt: &impl Print, input: &mut impl Read, head: Head) -> io::Result<()> {
+        match head.command {
+            Command::State => {
+                self.state = read_state(input)?;
+                Ok(())
+            }
+            Command::Lengths => self.read_lengths(input),
+            Command::Fill => {
+                self.fill(head.n);
+                Ok(())
+            }
+            Command::Poke => {
+                self.poke(head);
+                Ok(())
+            }
+            Command::Call(call) => {
+                self.call(rt, input, call, head)?;
+                self.print_sums(rt)
+            }
+        }
+    }
 }
 
-// What is kept before the first command: nothing is lent.
-fn start() -> Kept {
-    let depth = BitDepths { luma: 0, chroma: 0 };
-    let picture = Picture {
-        width: 0,
-        height: 0,
-        ctb: 0,
-        format: 0,
-        depth,
-        luma: false,
-        chroma: false,
-    };
-    let lent = Lent {
-        y: 0,
-        cb: 0,
-        cr: 0,
-        out_y: 0,
-        out_cb: 0,
-        out_cr: 0,
-        marks: 0,
-        table: 0,
-    };
-    let state = State { picture, next: 0 };
-    Kept {
-        state,
-        lent,
-        more: true,
+// The state before the first command.
+fn start() -> State {
+    State {
+        picture: Picture {
+            width: 0,
+            height: 0,
+            ctb: 0,
+            format: 0,
+            depth: BitDepths { luma: 0, chroma: 0 },
+            luma: false,
+            chroma: false,
+        },
+        next: 0,
     }
 }
 
-// A proved loop has to end, and nothing says that the input does: so the turns are counted down, from
-// a number that no run uses up.
+// A buffer before the first command: nothing of it is lent.
+fn unlent<T>(places: &mut [T]) -> Buffer<'_, T> {
+    Buffer { places, lent: 0 }
+}
+
+// A proved loop has to end, and nothing says that the input does: no run has so many commands.
 fn main(rt: HostRuntime) -> io::Result<()> {
     let mut input = rt.stdin();
     let mut y = [0u16; PLANE];
@@ -829,23 +553,26 @@ fn main(rt: HostRuntime) -> io::Result<()> {
     let mut out_cr = [0u16; PLANE];
     let mut marks = [0u8; MARKS];
     let mut table = [0u8; TABLE];
-    let mut k = start();
-    let mut turns = u64::MAX;
-    while turns > 0 && k.more {
-        k = turn(
-            &rt,
-            &mut input,
-            k,
-            &mut y,
-            &mut cb,
-            &mut cr,
-            &mut out_y,
-            &mut out_cb,
-            &mut out_cr,
-            &mut marks,
-            &mut table,
-        )?;
-        turns -= 1;
+    let mut run = Run {
+        state: start(),
+        deblocked: Planes {
+            y: unlent(&mut y),
+            cb: unlent(&mut cb),
+            cr: unlent(&mut cr),
+        },
+        filtered: Planes {
+            y: unlent(&mut out_y),
+            cb: unlent(&mut out_cb),
+            cr: unlent(&mut out_cr),
+        },
+        marks: unlent(&mut marks),
+        table: unlent(&mut table),
+    };
+    for _ in 0..u64::MAX {
+        let Some(head) = read_record(&mut input)? else {
+            break;
+        };
+        run.command(&rt, &mut input, Head::of(head))?;
     }
     Ok(())
 }

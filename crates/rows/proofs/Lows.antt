@@ -108,12 +108,6 @@ module _ (s : ℕ) {l o : ℤ} (hs : s ≤ 65535) (el : l ≡ low_of s) (hl : SF
   high_test : {b : Bool} → High b → lt_z (pos 32767) (pos s +ℤ o -ℤ pos 32768) ≡ b
   high_test e = ap (λ (z : ℤ). lt_z (pos 32767) z) (sym sum_is) ∙ e
 
-  pub sum_under : Low true → negsuc 32767 ≡ low_of (held 65535 (pos s +ℤ o))
-  sum_under e = under (pos s +ℤ o) (low_test e)
-
-  pub sum_over : Low false → High true → pos 32767 ≡ low_of (held 65535 (pos s +ℤ o))
-  sum_over e f = over (pos s +ℤ o) (low_test e) (high_test f)
-
   pub sum_narrow : Low false → High false → SFits w16 (to_z w32 (of_z w32 sum))
   sum_narrow e f = subst (λ (z : ℤ). SFits w16 z) (sym sum_is) (within (pos s +ℤ o) (low_test e) (high_test f)).1
 

@@ -67,9 +67,6 @@ module _ {v a b c d : ℤ} (s : Sole v a b c d) where
   sum2 : back a +ℤ back b ≡ s.u
   sum2 = two_sum s.u_fits s.two
 
-  pub fits2 : SFits w16 (back a +ℤ back b)
-  fits2 = subst (λ (z : ℤ). SFits w16 z) (sym sum2) s.u_fits
-
   sum3 : back (back a +ℤ back b) +ℤ back c ≡ s.t
   sum3 = two_sum s.t_fits (two_as sum2 s.three)
 

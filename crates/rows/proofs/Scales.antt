@@ -27,9 +27,6 @@ module _ (z : ℤ) (k : ℕ) (hz : SFits w8 z) (hk : k ≤ 6) where
   power_small : 2 ^ k ≤ 64
   power_small = pow_mono hk
 
-  pub power_fits : SFits w16 (pos ((1 * 2 ^ k) % 65536))
-  power_fits = record { sfits = omega (arith, power_is, power_small) }
-
   product_is : to_z w16 (of_z w16 (to_z w8 (of_z w8 z))) *ℤ to_z w16 ((1 * 2 ^ k) % 65536) ≡ z *ℤ pos (2 ^ k)
   product_is =
       ap₂ (λ (a b : ℤ). a *ℤ b) (wide_is w16 tt hz)

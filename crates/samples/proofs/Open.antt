@@ -1,5 +1,5 @@
 -- A part of a block in which every sample is open, or none is: its neighbours are in the picture, and it is written as the answers say.
-use mathlib.Core.Path.{◌≡◌, refl, sym, ap, ap₂, ◌∙◌, subst, subst₂}
+use mathlib.Core.Path.{◌≡◌, refl, sym, ap, ap₂, ◌∙◌, subst₂}
 use mathlib.Core.Bool.{Bool, true, false, cond, ◌&&◌}
 use mathlib.Core.List.{List}
 use mathlib.Core.Logic.{◌⊎◌, inl, inr}
@@ -20,7 +20,6 @@ use Rattle.rows.specs.declared.Moves.{Moves}
 use Rattle.rows.specs.Moves.{moved}
 use Rattle.samples.specs.declared.Around.{Around}
 use Rattle.samples.specs.declared.Runs.{Runs}
-use Rattle.samples.specs.declared.Three.{Three}
 use Rattle.samples.specs.declared.Side.TheVariants.{Before, Within, After}
 use Rattle.samples.specs.Steps.{Reach}
 use Rattle.samples.specs.Around.{row_of, answer_of, answered, is_open, context_from, Agrees, Reaches, ReachesBy, AllOf, AllOpen, Alike, Parted}
@@ -102,11 +101,6 @@ both_open o r a b x y e = both_true _ _ e
 abbrev pub Part : Around → Rectangle → Step → Step → Rectangle → Bool → Type 0
 Part o r a b p t = (x y : ℕ) → Inside p x y → Inside r x y × (is_open o r a b x y ≡ t)
 
-pub three_open : (t : Three) → t.before ≡ true → t.within ≡ true → t.after ≡ true → AllOf t
-three_open t a b c Before = a
-three_open t a b c Within = b
-three_open t a b c After = c
-
 pub rows_open : (o : Around) → AllOf (row_of o Before) → AllOf (row_of o Within) → AllOf (row_of o After) → AllOpen o
 unfolding answer_of
 rows_open o a b c across Before = a across
@@ -145,8 +139,3 @@ module _ (o : Around) (r : Rectangle) (s t : Step) (y0 y1 : ℕ) (top : r.y0 ≤
 
   pub last_part : Part o r s t (block k.d r.x1 y0 y1) k.last
   last_part = a_part k.d r.x1 k.last (omega (arith, parted.on, parted.order)) (omega arith) parted.last
-
--- the same answer by another name
-pub by_answer : (l : Layout) (m : Moves) (a b : Step) (plane : List ℕ) (r : Rectangle) {before after : List ℕ} {s t : Bool} → s ≡ t
-    → Written l.width l.height r (edge_if t l m a b plane) before after → Written l.width l.height r (edge_if s l m a b plane) before after
-by_answer l m a b plane r {before} {after} e = subst (λ (t : Bool). Written l.width l.height r (edge_if t l m a b plane) before after) (sym e)

@@ -9,7 +9,6 @@ use borrow.Rule.Slice.PartMut.{mid_of}
 use lib.IntN.{ℤ, pos, negsuc, nat_abs, ◌+ℤ◌, +ℤ_assoc, +ℤ_comm}
 use lib.ListN.{length, get_or}
 use Rattle.standard.specs.declared.Layout.{Layout}
-use Rattle.standard.specs.declared.Rectangle.{Rectangle}
 use Rattle.standard.specs.Sets.{NotNegative}
 use Rattle.standard.specs.Samples.{Step, at, in_picture}
 use Rattle.standard.proofs.Counting.{Place, in_place}
@@ -34,9 +33,6 @@ further : (a j : ℕ) (d : ℤ) → NotNegative (pos a +ℤ d) → pos (a + j) +
 further a j d t =
     +ℤ_assoc (pos a) (pos j) d ∙ ap (λ (z : ℤ). pos a +ℤ z) (+ℤ_comm (pos j) d) ∙ sym (+ℤ_assoc (pos a) d (pos j))
     ∙ ap (λ (z : ℤ). z +ℤ pos j) (sym (back (pos a +ℤ d) t))
-
-pub reach_row : (l : Layout) (step : Step) (r : Rectangle) (y : ℕ) → r.y0 ≤ y → y < r.y1 → Reach l step r → Reach l step (row r.x0 r.x1 y)
-reach_row l step r y h k s u v i = s u v (i.0, (omega (arith, i.1.0), omega (arith, i.1.1)))
 
 -- of a row from column x0 on
 module _ (l : Layout) (step : Step) (x0 x1 y : ℕ) (some_columns : x0 < x1) (reach : Reach l step (row x0 x1 y)) where

@@ -1,7 +1,8 @@
 -- What the rules of a block, each as one value, make of its samples.
-use Rattle.std.specs.Prelude.{Bool, ℕ}
+use Rattle.std.specs.Prelude.{◌≡◌, Bool, List, ℕ, ◌*◌, length}
 use Rattle.standard.specs.declared.Rectangle.{Rectangle}
 use Rattle.standard.specs.Samples.{at, band_idx}
+use Rattle.standard.specs.Calls.{Written}
 use Rattle.rows.specs.Moves.{moved}
 use Rattle.samples.specs.declared.Around.{Around}
 use Rattle.samples.specs.declared.Deblocked.{Deblocked}
@@ -9,7 +10,19 @@ use Rattle.samples.specs.declared.ByBand.{ByBand}
 use Rattle.samples.specs.declared.ByEdge.{ByEdge}
 use Rattle.samples.specs.Steps.{step_to, Reach}
 use Rattle.samples.specs.Around.{is_open, context_from}
-use Rattle.samples.specs.Blocks.{EdgeReady, by_edge, compared, edge_if}
+use Rattle.samples.specs.Blocks.{Lent, EdgeReady, by_edge, compared, edge_if}
+
+-- a rectangle of the plane d, and a filtered plane
+abbrev pub LentFrom : Deblocked → Rectangle → List ℕ → Type 0
+LentFrom d r out = Lent d.layout r d.samples.now out
+
+-- a filtered plane is as large as d
+abbrev pub AsLarge : Deblocked → List ℕ → Type 0
+AsLarge d out = length out ≡ d.layout.width * d.layout.height
+
+-- in r the samples become as f says, and no other changes
+abbrev pub Becomes : Deblocked → Rectangle → (ℕ → ℕ → ℕ) → List ℕ → List ℕ → Type 0
+Becomes d = Written d.layout.width d.layout.height
 
 -- a sample as it is
 abbrev pub kept : Deblocked → ℕ → ℕ → ℕ

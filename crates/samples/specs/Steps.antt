@@ -20,7 +20,7 @@ step_to s = record { h = by s.dx; v = by s.dy }
 
 -- of a table of classes by two neighbours, the step to neighbour k
 abbrev pub entry_of : List (List Step) → ℕ → ℕ → Step
-entry_of table class k = get_or (get_or table class []) k (record { dx = Stay; dy = Stay })
+entry_of table class k = get_or (get_or table class []) k (record { dx = Back; dy = Back })
 
 -- THE TABLE THAT THE CODE HAS: its steps are those of the definitions, and in each class the second is the first negated
 pub record Steps (table : List (List Step)) : Type 0 where

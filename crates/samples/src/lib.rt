@@ -4,32 +4,30 @@
 // deblocked plane.
 #![tactic(auto)]
 
-ghost use Rattle.std.specs.Prelude.{◌≡◌, true, ◌&&◌, List, ℕ, ◌+◌, ◌-◌, ◌*◌, ◌≤◌, ◌<◌, pos, nat_abs, ◌+ℤ◌, length};
-ghost use Rattle.standard.specs.declared.Layout.{Layout};
+ghost use Rattle.std.specs.Prelude.{◌≡◌, true, ℕ, ◌+◌, ◌*◌, ◌≤◌, ◌<◌, pos, nat_abs, ◌+ℤ◌};
 ghost use Rattle.standard.specs.declared.Rectangle.{Rectangle};
 ghost use Rattle.standard.specs.Picture.{Inside};
 ghost use Rattle.standard.specs.Sets.{NotNegative};
 ghost use Rattle.standard.specs.Samples.{Context, in_picture, sample};
 ghost use Rattle.standard.specs.Calls.{Written};
 ghost use Rattle.planes.specs.Places.{block, row};
-ghost use Rattle.rows.specs.Moves.{scaled_by, moves_of};
 ghost use Rattle.samples.specs.Steps.{by, step_to, entry_of, Steps};
 ghost use Rattle.samples.specs.Around.{side_of, row_of, pick_of, answer_of, answered, AllOf, AllOpen, Alike, Parted, Agrees, picture_around};
-ghost use Rattle.samples.specs.Blocks.{Lent, Ready};
-ghost use Rattle.samples.specs.Rules.{kept, banded, Reaching, edged, edged_if, edged_in, open_in, BlockReady};
+ghost use Rattle.samples.specs.Blocks.{Ready};
+ghost use Rattle.samples.specs.Rules.{LentFrom, AsLarge, Becomes, kept, banded, Reaching, edged, edged_if, edged_in, open_in, BlockReady};
 ghost use Rattle.std.proofs.Common.{rules};
 
 use planes::{copy_row, index};
 use rows::{Bands, Moves, band_row, edge_row, moves_of, scaled_by};
-use standard::{Four, Layout, Offsets, Rectangle};
+use standard::{Layout, Offsets, Rectangle};
 
 // ---- steps to the neighbours
 
-// Across or down, from a sample to one of its neighbours: not at all, back by one, or on by one.
+// Across or down, from a sample to one of its neighbours: back by one, not at all, or on by one.
 #[derive(Clone, Copy)]
 enum Way {
-    Stay,
     Back,
+    Stay,
     On,
 }
 
@@ -66,16 +64,12 @@ fn entry(steps: &[[Step; 2]; 4], class: usize, k: usize) -> Step
 }
 
 impl Way {
-    // The column, or row, that way from v.
+    // The column, or row, that way from v. It is a sum, since a match would stand in the loop over rows.
     fn from_place(self, v: usize) -> usize
         requires { (v ≤ 8192) × NotNegative (pos v +ℤ by self) }
         ensures { result ≡ nat_abs (pos v +ℤ by self) }
     {
-        match self {
-            Way::Stay => v,
-            Way::Back => v - 1,
-            Way::On => v + 1,
-        }
+        v + (self as usize) - 1
     }
 
     // The side of the column, or row, that way from x, of a block from a on up to and without b.
@@ -243,9 +237,9 @@ trait Rule {
 
     // Columns x0 up to and without x1 of row y.
     fn line(self, x0: usize, x1: usize, y: usize, out: &mut [u16])
-        requires lent { Lent (from self).layout (row x0 x1 y) (from self).samples.now out.old × (x0 < x1) }
+        requires lent { LentFrom (from self) (row x0 x1 y) out.old × (x0 < x1) }
         requires fits { Fits self (row x0 x1 y) }
-        ensures { Written (from self).layout.width (from self).layout.height (row x0 x1 y) (sample self) out.old out.new };
+        ensures { Becomes (from self) (row x0 x1 y) (sample self) out.old out.new };
 
     // A row of a rectangle fits as the rectangle does.
     ghost row_fits: { (s : Self) (r : Rectangle) (y : ℕ) → r.y0 ≤ y → y < r.y1 → Fits s r → Fits s (row r.x0 r.x1 y) };
@@ -336,9 +330,9 @@ impl Rule for ByEdge<'_> {
 
 // The rows of a rectangle, by a rule.
 fn rows<R: Rule + Copy>(rule: R, r: Rectangle, out: &mut [u16])
-    requires lent { Lent (R.from rule).layout r (R.from rule).samples.now out.old }
+    requires lent { LentFrom (R.from rule) r out.old }
     requires fits { R.Fits rule r }
-    ensures { Written (R.from rule).layout.width (R.from rule).layout.height r (R.sample rule) out.old out.new }
+    ensures { Becomes (R.from rule) r (R.sample rule) out.old out.new }
 {
     if r.x0 < r.x1 {
         for y in r.y0..r.y1 {
@@ -403,9 +397,9 @@ impl EdgeBlock<'_> {
 
     // Samples whose neighbours may all be compared with them, by edge, or samples that stay.
     fn part(self, whole: bool, p: Rectangle, out: &mut [u16])
-        requires lent { Lent self.rule.from.layout p self.rule.from.samples.now out.old }
+        requires lent { LentFrom self.rule.from p out.old }
         requires reach { whole ≡ true → Reaching self.rule p }
-        ensures { Written self.entry.rule.from.layout.width self.entry.rule.from.layout.height p (edged_if whole self.entry.rule) out.old out.new }
+        ensures { Becomes self.entry.rule.from p (edged_if whole self.entry.rule) out.old out.new }
     {
         if whole {
             rows(self.rule, p, out);
@@ -416,9 +410,9 @@ impl EdgeBlock<'_> {
 
     // Rows y0 up to and without y1, which are parted alike.
     fn band(self, y0: usize, y1: usize, out: &mut [u16])
-        requires filtered { length out.old ≡ self.rule.from.layout.width * self.rule.from.layout.height }
+        requires filtered { AsLarge self.rule.from out.old }
         requires alike { (self.r.y0 ≤ y0) × (y0 ≤ y1) × (y1 ≤ self.r.y1) × Alike self.around self.r (step_to self.rule.a) (step_to self.rule.b) y0 y1 }
-        ensures { Written self.entry.rule.from.layout.width self.entry.rule.from.layout.height (block self.entry.r.x0 self.entry.r.x1 y0 y1) (edged_in self.entry.rule self.entry.around self.entry.r) out.old out.new }
+        ensures { Becomes self.entry.rule.from (block self.entry.r.x0 self.entry.r.x1 y0 y1) (edged_in self.entry.rule self.entry.around self.entry.r) out.old out.new }
     {
         if y0 < y1 {
             let k = self.runs(y0);
@@ -448,8 +442,8 @@ impl EdgeBlock<'_> {
 
     // The first row, the rows between and the last.
     fn bands(self, out: &mut [u16])
-        requires { length out.old ≡ self.rule.from.layout.width * self.rule.from.layout.height }
-        ensures { Written self.entry.rule.from.layout.width self.entry.rule.from.layout.height self.entry.r (edged_in self.entry.rule self.entry.around self.entry.r) out.old out.new }
+        requires { AsLarge self.rule.from out.old }
+        ensures { Becomes self.entry.rule.from self.entry.r (edged_in self.entry.rule self.entry.around self.entry.r) out.old out.new }
     {
         let t = self.r.y0 + 1;
         let u = t.max(self.r.y1 - 1);
@@ -460,8 +454,8 @@ impl EdgeBlock<'_> {
 
     // Where nothing is barred, every row in one piece.
     fn filter(self, out: &mut [u16])
-        requires { length out.old ≡ self.rule.from.layout.width * self.rule.from.layout.height }
-        ensures { Written self.entry.rule.from.layout.width self.entry.rule.from.layout.height self.entry.r (edged_in self.entry.rule self.entry.around self.entry.r) out.old out.new }
+        requires { AsLarge self.rule.from out.old }
+        ensures { Becomes self.entry.rule.from self.entry.r (edged_in self.entry.rule self.entry.around self.entry.r) out.old out.new }
     {
         if self.around.all_open() {
             rows(self.rule, self.r, out);
@@ -472,14 +466,6 @@ impl EdgeBlock<'_> {
 }
 
 // ---- a block
-
-// What the offsets of a set do to the samples of a layout.
-fn moves_for(l: Layout, o: Four<i8>) -> Moves
-    requires { (l.shift ≤ 6) × (l.depth ≤ 16) }
-    ensures { result ≡ moves_of l.depth (scaled_by l.shift o) }
-{
-    moves_of(scaled_by(o, l.shift), l.depth)
-}
 
 // The filter of one block, under every context that the eight answers agree with.
 pub fn filter_block(
@@ -500,7 +486,7 @@ pub fn filter_block(
     match set {
         Offsets::Off => rows(from, r, out),
         Offsets::Band { position, offsets } => {
-            let moves = moves_for(l, offsets);
+            let moves = moves_of(scaled_by(offsets, l.shift), l.depth);
             let bands = Bands {
                 position: u16::from(position),
                 depth: l.depth,
@@ -508,7 +494,7 @@ pub fn filter_block(
             rows(ByBand { from, moves, bands }, r, out);
         }
         Offsets::Edge { class, offsets } => {
-            let moves = moves_for(l, offsets);
+            let moves = moves_of(scaled_by(offsets, l.shift), l.depth);
             let class = usize::from(class);
             let s = steps();
             let a = entry(s, class, 0);

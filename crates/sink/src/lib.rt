@@ -86,6 +86,7 @@ impl Sink for Count {
 
     ghost laws = { count_laws };
 
+    #[tactic(auto, using(standard::proofs::Longest::fixed_length_lem))]
     fn bits(&mut self, width: u32, _value: u32) {
         self.bins += width as usize;
     }
@@ -108,6 +109,7 @@ fn type_idx(o: Offsets) -> u32
 }
 
 // v ones and a zero, or m ones.
+#[tactic(auto, using(crate::proofs::Ones::two_le, crate::proofs::Ones::zero_bits, crate::proofs::Ones::ones_bits, crate::proofs::Bits::truncated_length_part, crate::proofs::Bits::truncated_length_full))]
 fn truncated<S: Sink>(to: &mut S, m: Most, v: u32)
     requires { S.has_room to.old (length (truncated m.value v)) }
     ensures { S.takes to.old (truncated m.value v) to.new }
@@ -132,6 +134,7 @@ fn sign<S: Sink>(to: &mut S, o: i8)
     to.bits(1, 0);
 }
 
+#[tactic(auto, using(standard::proofs::Signed::backed), unfolding(standard::specs::Bins::magnitudes))]
 fn magnitudes<S: Sink>(to: &mut S, m: Most, o: Four<i8>)
     requires { S.has_room to.old (length (magnitudes m.value o)) }
     ensures { S.takes to.old (magnitudes m.value o) to.new }
@@ -142,6 +145,7 @@ fn magnitudes<S: Sink>(to: &mut S, m: Most, o: Four<i8>)
     truncated(to, m, magnitude(o.o4));
 }
 
+#[tactic(auto, using(standard::proofs::Signed::backed), unfolding(standard::specs::Bins::signs))]
 fn signs<S: Sink>(to: &mut S, o: Four<i8>)
     requires { S.has_room to.old (length (signs o)) }
     ensures { S.takes to.old (signs o) to.new }
@@ -161,6 +165,7 @@ fn kind<S: Sink>(to: &mut S, o: Offsets)
 }
 
 // What follows the type of Cr, which takes Cb's type and class.
+#[tactic(auto, using(standard::proofs::Longest::fixed_length_lem), unfolding(standard::specs::Bins::rest_of_cr))]
 fn rest_of_cr<S: Sink>(to: &mut S, m: Most, o: Offsets)
     requires { S.has_room to.old (length (rest_of_cr m.value o)) }
     ensures { S.takes to.old (rest_of_cr m.value o) to.new }
@@ -176,6 +181,7 @@ fn rest_of_cr<S: Sink>(to: &mut S, m: Most, o: Offsets)
     }
 }
 
+#[tactic(auto, using(standard::proofs::Longest::fixed_length_lem))]
 fn class<S: Sink>(to: &mut S, o: Offsets)
     requires { S.has_room to.old (length (class_bins o)) }
     ensures { S.takes to.old (class_bins o) to.new }
@@ -186,6 +192,7 @@ fn class<S: Sink>(to: &mut S, o: Offsets)
 }
 
 // What follows the type of luma, or of Cb.
+#[tactic(auto, using(crate::proofs::Parts::rest_parts, crate::proofs::Parts::rest_length))]
 fn rest<S: Sink>(to: &mut S, m: Most, o: Offsets)
     requires { S.has_room to.old (length (rest m.value o)) }
     ensures { S.takes to.old (rest m.value o) to.new }

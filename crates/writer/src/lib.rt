@@ -70,6 +70,7 @@ pub fn has_bins(s: Switches, left: Option<CtuSet>, up: Option<CtuSet>, q: CtuSet
 
 // ---- the bins, counted or put
 
+#[tactic(auto, unfolding(standard::specs::Bins::fixed_length))]
 fn not_taken<S: Sink>(to: &mut S, near: Option<CtuSet>)
     requires { S.has_room to.old (length (not_taken near)) }
     ensures { S.takes to.old (not_taken near) to.new }
@@ -79,6 +80,7 @@ fn not_taken<S: Sink>(to: &mut S, near: Option<CtuSet>)
     }
 }
 
+#[tactic(auto, unfolding(standard::specs::Bins::full))]
 fn full<S: Sink>(to: &mut S, s: Switches, q: CtuSet)
     requires { S.has_room to.old (length (full s q)) }
     ensures { S.takes to.old (full s q) to.new }
@@ -94,6 +96,7 @@ fn full<S: Sink>(to: &mut S, s: Switches, q: CtuSet)
     );
 }
 
+#[tactic(auto, unfolding(crate::specs::Forms::shape_bins, standard::specs::Bins::fixed_length))]
 fn shaped<S: Sink>(
     to: &mut S,
     shape: Shape,

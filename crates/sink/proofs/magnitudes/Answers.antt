@@ -1,4 +1,4 @@
--- Four, one after another.
+-- The room after the first, and all four in a row.
 use borrow.Author.Rules.{rules}
 use mathlib.Core.Path.{ap, ◌∙◌}
 use lib.ListN.{length}
@@ -6,17 +6,8 @@ use lib.IntN.{nat_abs}
 use mir.Syntax.{w8}
 use Rattle.standard.specs.Bins.{truncated, magnitudes}
 use Rattle.standard.proofs.Signed.{backed}
-use Rattle.sink.proofs.Rows.{takes_as, room_as, room_1, room_2, room_3, room_4}
+use Rattle.sink.proofs.Rows.{takes_as, room_as, room_2, room_3, room_4}
 use Rattle.sink.proofs.magnitudes.Goals as goal
-
-pub truncated-requires : goal.truncated-requires
-unfolding magnitudes
-truncated-requires g c =
-    let l = g.S.Sink.laws in
-    let o = c.args.o in
-    let m = c.args.m.value in
-    let e1 = ap (truncated m) (c.magnitude.ensures ∙ ap nat_abs (backed w8 o.o1 (search rules))) in
-    room_as l (ap length e1) (room_1 l (truncated m (nat_abs o.o1)) (truncated m (nat_abs o.o2)) (truncated m (nat_abs o.o3)) (truncated m (nat_abs o.o4)) c.requires)
 
 pub truncated-requires-2 : goal.truncated-requires-2
 unfolding magnitudes

@@ -2,7 +2,7 @@
 
 ghost use Rattle.std.specs.Prelude.{◌≡◌, ◌⊎◌, ◌*◌, ◌≤◌, MatchOption};
 ghost use Rattle.standard.specs.Picture.{Rules, components, plane_width, plane_height, samples_of};
-ghost use Rattle.standard.specs.Picture.{ctb_width, ctb_height, columns, rows, ctu_count, rectangle, grown};
+ghost use Rattle.standard.specs.Picture.{ctb_width, ctb_height, columns, rows, ctu_count, rectangle, grown, merge_left, merge_up};
 ghost use Rattle.standard.specs.Samples.{layout_of};
 ghost use Rattle.standard.specs.Table.{entry_size};
 ghost use Rattle.standard.specs.Reasons.{mark_count, mark_place};
@@ -12,8 +12,8 @@ ghost use Rattle.geometry.specs.Geometry.{Counted, around};
 
 use super::block::Block;
 use super::divisors::divisors_of;
-use super::{depth_of, is_described, shift_of};
-use standard::{ENTRY_BYTES, Layout, Picture, Rectangle};
+use super::{component_count, depth_of, due_of, is_described, no_such_component, shift_of};
+use standard::{ENTRY_BYTES, Layout, Picture, Rectangle, State};
 
 #[derive(Clone, Copy)]
 pub struct Described {
@@ -35,16 +35,10 @@ impl Described {
 
     // ---- components and planes
 
-    fn component_count(self) -> usize
-        ensures { result ≡ components self.picture }
-    {
-        if self.picture.format == 0 { 1 } else { 3 }
-    }
-
     pub fn no_such_component(self, component: u8) -> bool
         ensures { Tells (components self.picture ≤ component) result }
     {
-        self.component_count() <= (component as usize)
+        no_such_component(self.picture, component)
     }
 
     #[tactic(auto, using(standard::proofs::Divisors::plane_width_lem))]
@@ -194,7 +188,7 @@ impl Described {
     pub fn mark_count(self) -> usize
         ensures { result ≡ mark_count self.picture }
     {
-        self.component_count() * self.ctu_count()
+        component_count(self.picture) * self.ctu_count()
     }
 
     pub fn mark_place(self, component: u8, ctb: u32) -> usize
@@ -207,5 +201,30 @@ impl Described {
         ensures { result ≡ entry_size * ctu_count self.picture }
     {
         ENTRY_BYTES * self.ctu_count()
+    }
+
+    // ---- the order of reading
+
+    // The CTUs that a merge may reach, of the CTU that is read as number `next`.
+
+    #[tactic(auto, unfolding(standard::specs::Picture::merge_left, standard::specs::Picture::left_of))]
+    pub fn merge_left(self, next: u32) -> Option<u32>
+        ensures { result ≡ merge_left (record { picture = self.picture; next = next }) }
+    {
+        let picture = self.picture;
+        let k = due_of(State { picture, next });
+        if (k as usize) % self.columns() == 0 {
+            None
+        } else {
+            Some(k - 1)
+        }
+    }
+
+    #[tactic(auto, unfolding(standard::specs::Picture::merge_up, standard::specs::Picture::above_of))]
+    pub fn merge_up(self, next: u32) -> Option<u32>
+        ensures { result ≡ merge_up (record { picture = self.picture; next = next }) }
+    {
+        let picture = self.picture;
+        due_of(State { picture, next }).checked_sub(self.columns() as u32)
     }
 }

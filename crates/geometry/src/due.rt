@@ -5,8 +5,8 @@ ghost use Rattle.standard.specs.Picture.{due, merge_left, merge_up, ctu_count};
 ghost use Rattle.standard.specs.Sets.{switches_of};
 
 use super::described::Described;
-use super::switches_in;
-use standard::Switches;
+use super::{due_of, switches_of};
+use standard::{State, Switches};
 
 #[derive(Clone, Copy)]
 pub struct Due {
@@ -18,38 +18,38 @@ pub struct Due {
 impl Due {
     ghost use Rattle.geometry.specs.Dues.{state_of};
 
-    #[tactic(auto, unfolding(standard::specs::Picture::address))]
+    fn state(self) -> State
+        ensures { result ≡ state_of self }
+    {
+        State {
+            picture: self.of.picture,
+            next: self.next,
+        }
+    }
+
     pub fn ctu(self) -> u32
         ensures { result ≡ due (state_of self) }
     {
-        self.next
+        due_of(self.state())
     }
 
-    #[tactic(auto, unfolding(standard::specs::Sets::switches_of))]
     pub fn switches(self) -> Switches
         ensures { result ≡ switches_of (state_of self) }
     {
-        switches_in(self.of.picture)
+        switches_of(self.state())
     }
 
     // The CTUs that a merge may reach.
 
-    #[tactic(auto, unfolding(standard::specs::Picture::merge_left, standard::specs::Picture::left_of))]
     pub fn merge_left(self) -> Option<u32>
         ensures { result ≡ merge_left (state_of self) }
     {
-        let k = self.ctu();
-        if (k as usize) % self.of.columns() == 0 {
-            None
-        } else {
-            Some(k - 1)
-        }
+        self.of.merge_left(self.next)
     }
 
-    #[tactic(auto, unfolding(standard::specs::Picture::merge_up, standard::specs::Picture::above_of))]
     pub fn merge_up(self) -> Option<u32>
         ensures { result ≡ merge_up (state_of self) }
     {
-        self.ctu().checked_sub(self.of.columns() as u32)
+        self.of.merge_up(self.next)
     }
 }

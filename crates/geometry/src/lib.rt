@@ -1,8 +1,8 @@
 // A description tested, and what it says: planes and CTBs of each component, the order of CTUs, places of marks.
 #![tactic(auto)]
 
-ghost use Rattle.std.specs.Prelude.{◌≡◌, min};
-ghost use Rattle.standard.specs.Picture.{Side, Depth, Rules, depth_of};
+ghost use Rattle.std.specs.Prelude.{◌≡◌, ◌≤◌, min};
+ghost use Rattle.standard.specs.Picture.{Side, Depth, Rules, components, depth_of, due};
 ghost use Rattle.standard.specs.Sets.{switches_in, switches_of};
 ghost use Rattle.standard.specs.Means.{any_on};
 ghost use Rattle.standard.specs.Samples.{shift_of};
@@ -54,6 +54,20 @@ pub fn is_described(p: Picture) -> bool
         && is_depth(d.chroma)
         // in monochrome
         && (p.format != 0 || d.chroma == d.luma && !p.chroma)
+}
+
+// ---- components
+
+fn component_count(p: Picture) -> usize
+    ensures { result ≡ components p }
+{
+    if p.format == 0 { 1 } else { 3 }
+}
+
+pub fn no_such_component(p: Picture, component: u8) -> bool
+    ensures { Tells (components p ≤ component) result }
+{
+    component_count(p) <= (component as usize)
 }
 
 // ---- bit depth
@@ -112,4 +126,14 @@ pub fn any_on(s: Switches) -> bool
     ensures { result ≡ any_on s }
 {
     s.luma || s.chroma
+}
+
+// ---- the order of reading
+
+// The CTU that is due.
+#[tactic(auto, unfolding(standard::specs::Picture::address))]
+pub fn due_of(state: State) -> u32
+    ensures { result ≡ due state }
+{
+    state.next
 }

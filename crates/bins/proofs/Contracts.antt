@@ -3,7 +3,7 @@
 use mathlib.Core.Path.{◌≡◌, refl, sym, ap, ◌∙◌, subst}
 use mathlib.Core.Bool.{Bool, true, false}
 use mathlib.Core.List.{List}
-use Rattle.std.specs.Prelude.{Option, Some, None, Result, Ok, Err}
+use Rattle.std.specs.Prelude.{Option, Some, None, Result, Ok, Err, is_some}
 use Prim.Native.Nat.{◌*◌, ◌≤◌}
 use mathlib.Core.HLevel.{is_prop→PathP}
 use native.Mathlib.Bridge.{le_prop}
@@ -24,7 +24,7 @@ use Rattle.bins.specs.declared.Form.TheVariants.{Left, Up, Full}
 use Rattle.bins.specs.declared.BinsError.{BinsError}
 use Rattle.bins.specs.declared.BinsError.TheVariants.{TooEarly, BinsRemain}
 use Rattle.bins.specs.Takes.{bins_at, Taken, Takes}
-use Rattle.bins.specs.Forms.{is_there, Says, ReadAs}
+use Rattle.bins.specs.Forms.{Says, ReadAs}
 use Rattle.bins.proofs.ByReader.{seen, reads}
 use Rattle.bins.proofs.Places.{left_over}
 
@@ -70,7 +70,7 @@ abbrev set_at : Bool → CtuSet → Option CtuSet
 set_at true q = Some q
 set_at false q = None
 
-there : (b : Bool) (q : CtuSet) → is_there (set_at b q) ≡ b
+there : (b : Bool) (q : CtuSet) → is_some (set_at b q) ≡ b
 there true q = refl
 there false q = refl
 

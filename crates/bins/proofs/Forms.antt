@@ -2,7 +2,7 @@
 use mathlib.Core.Path.{◌≡◌, refl, sym, ap, ◌∙◌, subst}
 use mathlib.Core.Bool.{Bool, true, false}
 use mathlib.Core.List.{List, [], ◌∷◌, ◌++◌, append-nil}
-use Rattle.std.specs.Prelude.{Option, Some, None, Result, Ok, Err}
+use Rattle.std.specs.Prelude.{Option, Some, None, Result, Ok, Err, is_some}
 use Rattle.std.specs.Result.{IsErrAnd}
 use Prim.Native.Nat.{ℕ, ◌*◌, ◌≤◌, ◌<◌}
 use native.Mathlib.Nat.{not-suc-le-zero}
@@ -21,7 +21,7 @@ use Rattle.bins.specs.declared.BinsError.{BinsError}
 use Rattle.bins.specs.declared.BinsError.TheVariants.{TooEarly, BinsRemain}
 use Rattle.bins.specs.Takes.{bins_at, Taken, Takes}
 use Rattle.bins.specs.Values.{MergeFits, merge_bins, FormFits, bins_of_form}
-use Rattle.bins.specs.Forms.{is_there, Says, ReadAs}
+use Rattle.bins.specs.Forms.{Says, ReadAs}
 use Rattle.bins.proofs.Fetch.{bins_length}
 use Rattle.bins.proofs.Places.{left_over}
 use Rattle.bins.proofs.Steps.{then_takes, said_cut}
@@ -66,16 +66,16 @@ module _ (s : Switches) (has_left has_up : Bool) {c : Cursor} where
 -- ---- what a form says
 
 -- the bin of a merge that is not taken
-passed : {there : Bool} (o : Option CtuSet) → is_there o ≡ there → merge_bins there false ≡ not_taken o
+passed : {there : Bool} (o : Option CtuSet) → is_some o ≡ there → merge_bins there false ≡ not_taken o
 passed None e = ap (λ (b : Bool). merge_bins b false) (sym e)
 passed (Some q) e = ap (λ (b : Bool). merge_bins b false) (sym e)
 
-set_there : (o : Option CtuSet) → is_there o ≡ true → (q : CtuSet) × (o ≡ Some q)
+set_there : (o : Option CtuSet) → is_some o ≡ true → (q : CtuSet) × (o ≡ Some q)
 set_there None e = impossible cc
 set_there (Some q) e = (q, refl)
 
 module _ (s : Switches) {has_left has_up : Bool} (on : any_on s ≡ true) (left up : Option CtuSet)
-    (hl : is_there left ≡ has_left) (hu : is_there up ≡ has_up) where
+    (hl : is_some left ≡ has_left) (hu : is_some up ≡ has_up) where
   -- the bins of a form are as it says
   whole : (f : Form) → FormFits s has_left has_up f → {bins : List Bool} → bins ≡ bins_of_form s has_left has_up f → Says s left up bins (Ok f)
   whole Left i e = let n = set_there left (hl ∙ i) in (n.0, n.1, merged_left on n.1 e)

@@ -1,5 +1,5 @@
 -- The form of a CTU's bins, by what they mean once the neighbours' sets are known.
-use Rattle.std.specs.Prelude.{◌≡◌, Bool, true, false, List, Option, Some, None, Result, Ok, Err}
+use Rattle.std.specs.Prelude.{◌≡◌, Bool, List, Option, Some, Result, Ok, Err, is_some}
 use Rattle.standard.specs.declared.CtuSet.{CtuSet}
 use Rattle.standard.specs.declared.Switches.{Switches}
 use Rattle.standard.specs.Means.{Means, Early, Remain}
@@ -7,10 +7,6 @@ use Rattle.bins.specs.declared.BinsError.{BinsError}
 use Rattle.bins.specs.declared.BinsError.TheVariants.{TooEarly, BinsRemain}
 use Rattle.bins.specs.declared.Form.{Form}
 use Rattle.bins.specs.declared.Form.TheVariants.{Left, Up, Full}
-
-abbrev pub is_there : Option CtuSet → Bool
-is_there None = false
-is_there (Some q) = true
 
 -- what an answer says of the bins of a CTU whose neighbours have these sets: a merge, that they mean the neighbour's
 abbrev pub Says : Switches → Option CtuSet → Option CtuSet → List Bool → Result Form BinsError → Type 0
@@ -23,4 +19,4 @@ Says s left up bins (Err BinsRemain) = Remain s left up bins
 -- the answer is that of the bins: what it says is so whatever the sets of the neighbours that are there
 abbrev pub ReadAs : Switches → Bool → Bool → List Bool → Result Form BinsError → Type 0
 ReadAs s has_left has_up bins r =
-    (left up : Option CtuSet) → is_there left ≡ has_left → is_there up ≡ has_up → Says s left up bins r
+    (left up : Option CtuSet) → is_some left ≡ has_left → is_some up ≡ has_up → Says s left up bins r

@@ -29,12 +29,6 @@ one_part width left k value h i a b =
     ∙ sym (fixed_add (width - left) k x) ∙ ap (λ (j : ℕ). fixed_length j x) n in
     takes_as put_laws e (put_laws.both a b)
 
-pub all : (width value left : ℕ) {p q : Put} → left ≡ 0 → PutInto p (fixed_length (width - left) (value / 2 ^ left)) q → PutInto p (fixed_length width value) q
-all width value left z a =
-    let w : width - left ≡ width = omega arith in
-    let v : value / 2 ^ left ≡ value = ap (λ (j : ℕ). value / 2 ^ j) z ∙ omega arith in
-    takes_as put_laws (ap (λ (n : ℕ). fixed_length n (value / 2 ^ left)) w ∙ ap (fixed_length width) v) a
-
 -- room for the rest is room for the next part
 pub room_part : (width left k x : ℕ) {p q : Put} → k ≤ left → left ≤ width → has_bytes p width → PutInto p (fixed_length (width - left) x) q → has_bytes q k
 room_part width left k x {p} {q} h i r a =

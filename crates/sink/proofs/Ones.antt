@@ -16,9 +16,6 @@ one_shl m h = let lt : 2 ^ m < 2 ^ 32 = pow-lt h in mod-eq_of_lt (omega arith) �
 pub two_le : (v : ℕ) → v < 31 → 2 ≤ 2 * 2 ^ v % 2 ^ 32
 two_le v h = omega (arith, two_shl v h, two-pow-succ v, pow_pos v)
 
-pub one_le : (m : ℕ) → m < 32 → 1 ≤ 1 * 2 ^ m % 2 ^ 32
-one_le m h = omega (arith, one_shl m h, pow_pos m)
-
 -- ones and a zero, or ones alone, are the bits of a number
 module _ (m v : ℕ) (h : m < 32) where
   pub zero_bits : v < m → fixed_length (v + 1) (2 * 2 ^ v % 2 ^ 32 - 2) ≡ truncated m v

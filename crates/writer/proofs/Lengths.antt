@@ -1,27 +1,19 @@
--- How many bins a set has, at most, and the parts of its full form.
-use mathlib.Core.Bool.{Bool, true}
-use mathlib.Core.List.{List, ◌++◌, ◌∷◌, []}
-use Prim.Native.Nat.{ℕ, ◌≤◌}
+-- How many bins a set has, at most.
+use mathlib.Core.Bool.{true}
+use mathlib.Core.List.{◌++◌, ◌∷◌, []}
+use Prim.Native.Nat.{◌≤◌}
 use native.Mathlib.Omega.{arith}
 use lib.ListN.{length, length-append}
 use Rattle.std.specs.Prelude.{Option, Some as some, None as none}
-use Rattle.standard.specs.declared.Offsets.{Offsets}
 use Rattle.standard.specs.declared.CtuSet.{CtuSet}
 use Rattle.standard.specs.declared.Switches.{Switches}
-use Rattle.standard.specs.Bins.{type_bins, rest, rest_of_cr, when, full}
+use Rattle.standard.specs.Bins.{full}
 use Rattle.standard.specs.Means.{not_taken}
 use Rattle.standard.proofs.Depths.{largest_at_most_31}
 use Rattle.standard.proofs.Longest.{full_length}
 use Rattle.writer.specs.declared.Shape.{Shape}
 use Rattle.writer.specs.declared.Shape.TheVariants.{Empty, Left, Up, Full}
 use Rattle.writer.specs.Forms.{shape_bins}
-
--- luma's bins, and those of Cb and Cr, by M of each
-abbrev pub luma_bins : Bool → ℕ → Offsets → List Bool
-luma_bins on m y = when on (type_bins y ++ rest m y)
-
-abbrev pub chroma_bins : Bool → ℕ → Offsets → ℕ → Offsets → List Bool
-chroma_bins on m cb n cr = when on (type_bins cb ++ (rest m cb ++ rest_of_cr n cr))
 
 not_taken_length : (near : Option CtuSet) → length (not_taken near) ≤ 1
 not_taken_length none = omega arith

@@ -1,57 +1,55 @@
 // Deliver: the samples of a CTB go into its component's plane, and its mark becomes 1.
 #![tactic(auto)]
 
-ghost use Rattle.std.specs.Prelude.{◌≡◌, ◌*◌, ◌<◌, length};
-ghost use Rattle.standard.specs.Picture.{Rules, components, plane_width, plane_height, ctu_count, rectangle};
+ghost use Rattle.std.specs.Prelude.{◌≡◌, ◌*◌, length, IfOk};
+ghost use Rattle.standard.specs.Picture.{plane_width, plane_height, rectangle};
 ghost use Rattle.standard.specs.Refusals.{Tells};
 ghost use Rattle.standard.specs.Reasons.{MarksFit, area, DeliveredSampleTooLarge, samples_reasons, deliver_reasons};
 ghost use Rattle.standard.specs.Calls.{Written, delivered};
 ghost use Rattle.standard.specs.Ensures.{Judged, DeliverEnsures};
+ghost use Rattle.lent.specs.Lengths.{lists_of, Names};
+ghost use Rattle.delivering.specs.Blocks.{state_of};
 
-use lent::{Bytes, Lent, Planes};
-use standard::{Answer, Outcome, Picture, Refusal, State};
+use geometry::Block;
+use lent::{Lent, Planes};
+use planes::Place;
+use standard::{Outcome, Refusal, State};
 
 // ---- the reasons to refuse
 
-fn samples_fit(p: Picture, component: u8, ctb: u32, samples: &[u16]) -> bool
-    requires { Rules p × (ctb < ctu_count p) }
-    ensures { Tells (length samples.now ≡ area (rectangle p component ctb)) result }
+fn samples_fit(block: Block, samples: &[u16]) -> bool
+    ensures { Tells (length samples.now ≡ area (rectangle block.of.picture block.component block.ctb)) result }
 {
-    let r = geometry::ctb_rectangle(p, component, ctb);
-    if samples.len() != (r.x1 - r.x0) * (r.y1 - r.y0) {
-        return false;
-    }
-    true
+    let r = block.rectangle();
+    samples.len() == (r.x1 - r.x0) * (r.y1 - r.y0)
 }
 
-fn sample_too_large(state: State, component: u8, samples: &[u16]) -> bool
-    requires { Rules state.picture }
-    ensures { Tells (DeliveredSampleTooLarge state component samples.now) result }
+#[tactic(auto, using(standard::proofs::Depths::depth_at_most_16))]
+fn sample_too_large(block: Block, samples: &[u16]) -> bool
+    ensures { Tells (DeliveredSampleTooLarge (state_of block) block.component samples.now) result }
 {
-    let depth = geometry::depth_of(state.picture, component);
-    planes::sample_above(samples, planes::top_of(depth))
+    planes::sample_above(samples, planes::top_of(block.depth()))
 }
 
 // The samples, and the CTB's mark, in document 01's order: the first reason that holds is the answer.
-fn samples_answer(state: State, component: u8, ctb: u32, samples: &[u16], marks: &[u8]) -> Answer
-    requires { Rules state.picture × MarksFit state.picture marks.now × (component < components state.picture) × (ctb < ctu_count state.picture) }
-    ensures { Judged (samples_reasons state component ctb samples.now marks.now) result }
+fn samples_answer(block: Block, samples: &[u16], marks: &[u8]) -> Result<(), Refusal>
+    requires { MarksFit block.of.picture marks.now }
+    ensures { Judged (samples_reasons (state_of block) block.component block.ctb samples.now marks.now) result }
 {
-    let p = state.picture;
-    if !samples_fit(p, component, ctb, samples) {
-        return Answer::Refused(Refusal::Length);
+    if !samples_fit(block, samples) {
+        return Err(Refusal::Length);
     }
-    let m = marks::mark_of(p, component, ctb, marks);
+    let m = marks::mark_of(block, marks);
     if m > 2 {
-        return Answer::Refused(Refusal::Stored);
+        return Err(Refusal::Stored);
     }
     if m != 0 {
-        return Answer::Refused(Refusal::DeliveredBefore);
+        return Err(Refusal::DeliveredBefore);
     }
-    if sample_too_large(state, component, samples) {
-        return Answer::Refused(Refusal::SampleTooLarge);
+    if sample_too_large(block, samples) {
+        return Err(Refusal::SampleTooLarge);
     }
-    Answer::Done
+    Ok(())
 }
 
 fn deliver_answer(
@@ -59,43 +57,36 @@ fn deliver_answer(
     component: u8,
     ctb: u32,
     samples: &[u16],
-    y: &[u16],
-    cb: &[u16],
-    cr: &[u16],
+    planes: Planes,
     marks: &[u8],
-) -> Answer
-    ensures { Judged (deliver_reasons state component ctb samples.now (record { y = y.now; cb = cb.now; cr = cr.now }) marks.now) result }
+) -> Result<Block, Refusal>
+    ensures verdict { Judged (deliver_reasons state component ctb samples.now (lists_of planes.entry) marks.now) result }
+    ensures of_call { IfOk result (Names state component ctb) }
 {
     let lent = Lent {
-        deblocked: Planes::Lengths(y.len(), cb.len(), cr.len()),
-        filtered: Planes::NotLent,
-        marks: Bytes::Length(marks.len()),
-        table: Bytes::NotLent,
+        deblocked: Some(planes),
+        marks: Some(marks),
+        ..Lent::default()
     };
-    match lent::block_answer(state, lent, component, ctb) {
-        Answer::Refused(r) => Answer::Refused(r),
-        Answer::Done => samples_answer(state, component, ctb, samples, marks),
-    }
+    let block = lent::block_answer(state, lent, component, ctb)?;
+    samples_answer(block, samples, marks)?;
+    Ok(block)
 }
 
 // ---- the call
 
 // The samples of a CTB into the plane of its component.
-fn put_ctb(p: Picture, component: u8, ctb: u32, samples: &[u16], plane: &mut [u16])
-    requires rules { Rules p × (ctb < ctu_count p) }
-    requires samples_len { length samples.now ≡ area (rectangle p component ctb) }
-    requires plane_len { length plane.old ≡ plane_width p component * plane_height p component }
-    ensures { Written (plane_width p component) (plane_height p component) (rectangle p component ctb) (delivered (rectangle p component ctb) samples.now) plane.old plane.new }
+fn put_ctb(block: Block, samples: &[u16], plane: &mut [u16])
+    requires samples_len { length samples.now ≡ area (rectangle block.of.picture block.component block.ctb) }
+    requires plane_len { length plane.old ≡ plane_width block.of.picture block.component * plane_height block.of.picture block.component }
+    ensures { Written (plane_width block.of.picture block.component) (plane_height block.of.picture block.component) (rectangle block.of.picture block.component block.ctb) (delivered (rectangle block.of.picture block.component block.ctb) samples.now) plane.old plane.new }
 {
-    let w = geometry::plane_width(p, component);
-    let h = geometry::plane_height(p, component);
-    planes::put_block(
-        samples,
-        plane,
-        w,
-        h,
-        geometry::ctb_rectangle(p, component, ctb),
-    );
+    let place = Place {
+        width: block.plane_width(),
+        height: block.plane_height(),
+        rectangle: block.rectangle(),
+    };
+    planes::put_block(samples, plane, place);
 }
 
 pub fn deliver(
@@ -107,27 +98,20 @@ pub fn deliver(
     cb: &mut [u16],
     cr: &mut [u16],
     marks: &mut [u8],
-) -> Outcome
+) -> Outcome<()>
     ensures { DeliverEnsures state component ctb samples.now (record { y = y.old; cb = cb.old; cr = cr.old }) marks.old result (record { y = y.new; cb = cb.new; cr = cr.new }) marks.new }
 {
-    match deliver_answer(state, component, ctb, samples, y, cb, cr, marks) {
-        Answer::Refused(r) => Outcome {
-            answer: Answer::Refused(r),
-            state,
-        },
-        Answer::Done => {
-            let p = state.picture;
-            let i = geometry::mark_place(p, component, ctb);
-            marks[i] = 1;
+    match deliver_answer(state, component, ctb, samples, Planes { y, cb, cr }, marks) {
+        Err(refusal) => Outcome::refused(refusal, state),
+        Ok(block) => {
+            marks[block.mark_place()] = 1;
+            // Three arms: a function that hands out one of three `&mut` cannot say that the other two stay as they were.
             match component {
-                0 => put_ctb(p, component, ctb, samples, y),
-                1 => put_ctb(p, component, ctb, samples, cb),
-                _ => put_ctb(p, component, ctb, samples, cr),
+                0 => put_ctb(block, samples, y),
+                1 => put_ctb(block, samples, cb),
+                _ => put_ctb(block, samples, cr),
             }
-            Outcome {
-                answer: Answer::Done,
-                state,
-            }
+            Outcome::accepted((), state)
         }
     }
 }

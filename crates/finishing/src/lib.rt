@@ -1,47 +1,78 @@
 // Finished rows: the leading part of the caller's own filtered plane, and the companion that answers how many rows it has.
 #![tactic(auto)]
 
-ghost use Rattle.std.specs.Prelude.{◌≡◌, ◌*◌, ◌/◌, ◌≤◌, ◌<◌, min, take};
-ghost use Rattle.standard.specs.Picture.{Rules, components, plane_width, plane_height, ctb_height, columns, ctu_count};
-ghost use Rattle.standard.specs.Reasons.{PlanesFit, plane_of, MarksFit, marks_reasons};
+ghost use Rattle.std.specs.Prelude.{◌≡◌, ℕ, ◌*◌, ◌/◌, ◌≤◌, ◌<◌, min, length, slice_index, take, IfOk};
+ghost use Rattle.standard.specs.Picture.{components, plane_width, plane_height, ctb_height, columns, ctu_count};
+ghost use Rattle.standard.specs.Reasons.{PlanesFit, plane_of, MarksFit, mark_of, marks_reasons, rows_reasons};
 ghost use Rattle.standard.specs.Calls.{FinishedRows};
-ghost use Rattle.standard.specs.Ensures.{RowsDecides, RowsEnsures, PartEnsures};
+ghost use Rattle.standard.specs.Ensures.{Judged, RowsEnsures, PartEnsures};
+ghost use Rattle.lent.specs.Lengths.{lists_of};
+ghost use Rattle.finishing.specs.Pictures.{state_of};
 
-use lent::{Bytes, Lent, Planes};
-use standard::{Answer, Picture, Refusal, RowsAnswer, RowsOutcome, State};
+use geometry::Described;
+use lent::{Lent, Planes};
+use marks::Allowed;
+use planes::Plane;
+use standard::{Outcome, Refusal, State};
 
 // ---- the companion
 
 // The sample rows of the CTB rows that the first n CTBs fill. The last CTB row may be cut short.
-fn sample_rows(p: Picture, component: u8, n: usize) -> usize
-    requires { Rules p × (n ≤ ctu_count p) }
-    ensures { result ≡ min (n / columns p * ctb_height p component) (plane_height p component) }
+fn sample_rows(of: Described, component: u8, n: usize) -> usize
+    requires { n ≤ ctu_count of.picture }
+    ensures { result ≡ min (n / columns of.picture * ctb_height of.picture component) (plane_height of.picture component) }
 {
-    let ctb_rows = n / geometry::columns_of(p);
-    let r = ctb_rows * geometry::ctb_height(p, component);
-    let height = geometry::plane_height(p, component);
-    if r < height { r } else { height }
+    let ctb_rows = n / of.columns();
+    (ctb_rows * of.ctb_height(component)).min(of.plane_height(component))
+}
+
+// The component's own marks, which stand side by side.
+fn own_marks<'a>(of: Described, component: u8, marks: &'a [u8]) -> &'a [u8]
+    requires { MarksFit of.picture marks.now × (component < components of.picture) }
+    ensures len { length result.now ≡ ctu_count of.picture }
+    ensures each { (k : ℕ) → k < ctu_count of.picture → slice_index result.now k ≡ mark_of of.picture marks.now component k }
+{
+    let from = of.mark_place(component, 0);
+    &marks[from..from + of.ctu_count()]
 }
 
 // The component and its marks, in one pass: those before that of the first CTB that is not filtered are 2, and so only the
 // rest can have one above 2.
-fn rows_answer(state: State, component: u8, marks: &[u8]) -> RowsAnswer
-    requires { Rules state.picture × MarksFit state.picture marks.now }
-    ensures { RowsDecides (marks_reasons state component marks.now) result (FinishedRows state component marks.now) }
+fn rows_answer(of: Described, component: u8, marks: &[u8]) -> Result<usize, Refusal>
+    requires { MarksFit of.picture marks.now }
+    ensures verdict { Judged (marks_reasons (state_of of) component marks.now) result }
+    ensures rows { IfOk result (FinishedRows (state_of of) component marks.now) }
 {
-    let p = state.picture;
-    if geometry::no_such_component(p, component) {
-        return RowsAnswer::Refused(Refusal::NoSuchBlock);
+    if of.no_such_component(component) {
+        return Err(Refusal::NoSuchBlock);
     }
-    let from = geometry::mark_place(p, component, 0);
-    let n = geometry::ctu_count(p);
-    let filtered = marks::leading_of_many(marks, from, n, 2, 2);
-    let rest = from + filtered;
-    let left = n - filtered;
-    if marks::some_of_many(marks, rest, left, 0, 2) {
-        return RowsAnswer::Refused(Refusal::Stored);
+    let own = own_marks(of, component, marks);
+    let filtered = marks::leading_of_many(own, Allowed { low: 2, high: 2 });
+    if marks::some_of_many(&own[filtered..], Allowed { low: 0, high: 2 }) {
+        return Err(Refusal::Stored);
     }
-    RowsAnswer::Rows(sample_rows(p, component, filtered))
+    Ok(sample_rows(of, component, filtered))
+}
+
+// The picture, and how many sample rows of the component are finished.
+fn count_answer(
+    state: State,
+    component: u8,
+    filtered: Planes,
+    marks: &[u8],
+) -> Result<(Described, usize), Refusal>
+    ensures verdict { Judged (rows_reasons state component (lists_of filtered.entry) marks.now) result }
+    ensures of_call { IfOk result (λ r. r.0.picture ≡ state.picture) }
+    ensures rows { IfOk result (λ r. FinishedRows state component marks.now r.1) }
+{
+    let lent = Lent {
+        filtered: Some(filtered),
+        marks: Some(marks),
+        ..Lent::default()
+    };
+    let of = lent::call_answer(state, lent)?;
+    let n = rows_answer(of, component, marks)?;
+    Ok((of, n))
 }
 
 // How many sample rows are finished, or why the question is refused.
@@ -52,48 +83,28 @@ pub fn finished_count(
     cb: &[u16],
     cr: &[u16],
     marks: &[u8],
-) -> RowsOutcome
+) -> Outcome<usize>
     ensures { RowsEnsures state component (record { y = y.now; cb = cb.now; cr = cr.now }) marks.now result }
 {
-    let lent = Lent {
-        deblocked: Planes::NotLent,
-        filtered: Planes::Lengths(y.len(), cb.len(), cr.len()),
-        marks: Bytes::Length(marks.len()),
-        table: Bytes::NotLent,
-    };
-    match lent::call_answer(state, lent) {
-        Answer::Refused(r) => RowsOutcome {
-            answer: RowsAnswer::Refused(r),
-            state,
-        },
-        Answer::Done => RowsOutcome {
-            answer: rows_answer(state, component, marks),
-            state,
-        },
+    match count_answer(state, component, Planes { y, cb, cr }, marks) {
+        Err(refusal) => Outcome::refused(refusal, state),
+        Ok((_, n)) => Outcome::accepted(n, state),
     }
 }
 
 // ---- the rows
 
 // The first n rows of the component's plane.
-fn leading_part<'a>(
-    p: Picture,
-    component: u8,
-    y: &'a [u16],
-    cb: &'a [u16],
-    cr: &'a [u16],
-    n: usize,
-) -> &'a [u16]
-    requires { Rules p × PlanesFit p (record { y = y.now; cb = cb.now; cr = cr.now }) × (component < components p) × (n ≤ plane_height p component) }
-    ensures { result.now ≡ take (n * plane_width p component) (plane_of (record { y = y.now; cb = cb.now; cr = cr.now }) component) }
+fn leading_part<'a>(of: Described, component: u8, planes: Planes<'a>, n: usize) -> &'a [u16]
+    requires { PlanesFit of.picture (lists_of planes) × (component < components of.picture) × (n ≤ plane_height of.picture component) }
+    ensures { result.now ≡ take (n * plane_width of.picture component) (plane_of (lists_of planes.entry) component) }
 {
-    let w = geometry::plane_width(p, component);
-    let h = geometry::plane_height(p, component);
-    match component {
-        0 => planes::leading_rows(y, w, h, n),
-        1 => planes::leading_rows(cb, w, h, n),
-        _ => planes::leading_rows(cr, w, h, n),
-    }
+    let plane = Plane {
+        samples: planes.of(component),
+        width: of.plane_width(component),
+        height: of.plane_height(component),
+    };
+    plane.leading_rows(n)
 }
 
 // Those rows of the component's plane, and none where the companion refuses.
@@ -107,10 +118,9 @@ pub fn finished_rows<'a>(
 ) -> &'a [u16]
     ensures { PartEnsures state component (record { y = y.now; cb = cb.now; cr = cr.now }) marks.now result.now }
 {
-    let o = finished_count(state, component, y, cb, cr, marks);
-    let a = o.answer;
-    match a {
-        RowsAnswer::Refused(_) => &y[..0],
-        RowsAnswer::Rows(n) => leading_part(state.picture, component, y, cb, cr, n),
+    let planes = Planes { y, cb, cr };
+    match count_answer(state, component, planes, marks) {
+        Err(_) => &y[..0],
+        Ok((of, n)) => leading_part(of, component, planes, n),
     }
 }

@@ -8,7 +8,7 @@ ghost use Rattle.standard.specs.Reasons.{MarksFit, area, DeliveredSampleTooLarge
 ghost use Rattle.standard.specs.Calls.{Written, delivered};
 ghost use Rattle.standard.specs.Ensures.{Judged, DeliverEnsures};
 ghost use Rattle.lent.specs.Lengths.{lists_of, Names};
-ghost use Rattle.delivering.specs.Blocks.{state_of};
+ghost use Rattle.lent.specs.States.{state_at};
 
 use geometry::Block;
 use lent::{Lent, Planes};
@@ -26,7 +26,7 @@ fn samples_fit(block: Block, samples: &[u16]) -> bool
 
 #[tactic(auto, using(standard::proofs::Depths::depth_at_most_16))]
 fn sample_too_large(block: Block, samples: &[u16]) -> bool
-    ensures { Tells (DeliveredSampleTooLarge (state_of block) block.component samples.now) result }
+    ensures { Tells (DeliveredSampleTooLarge (state_at block.of 0) block.component samples.now) result }
 {
     planes::sample_above(samples, planes::top_of(block.depth()))
 }
@@ -34,7 +34,7 @@ fn sample_too_large(block: Block, samples: &[u16]) -> bool
 // The samples, and the CTB's mark, in document 01's order: the first reason that holds is the answer.
 fn samples_answer(block: Block, samples: &[u16], marks: &[u8]) -> Result<(), Refusal>
     requires { MarksFit block.of.picture marks.now }
-    ensures { Judged (samples_reasons (state_of block) block.component block.ctb samples.now marks.now) result }
+    ensures { Judged (samples_reasons (state_at block.of 0) block.component block.ctb samples.now marks.now) result }
 {
     if !samples_fit(block, samples) {
         return Err(Refusal::Length);

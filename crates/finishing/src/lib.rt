@@ -7,7 +7,7 @@ ghost use Rattle.standard.specs.Reasons.{PlanesFit, plane_of, MarksFit, mark_of,
 ghost use Rattle.standard.specs.Calls.{FinishedRows};
 ghost use Rattle.standard.specs.Ensures.{Judged, RowsEnsures, PartEnsures};
 ghost use Rattle.lent.specs.Lengths.{lists_of};
-ghost use Rattle.finishing.specs.Pictures.{state_of};
+ghost use Rattle.lent.specs.States.{state_at};
 
 use geometry::Described;
 use lent::{Lent, Planes};
@@ -40,8 +40,8 @@ fn own_marks<'a>(of: Described, component: u8, marks: &'a [u8]) -> &'a [u8]
 // rest can have one above 2.
 fn rows_answer(of: Described, component: u8, marks: &[u8]) -> Result<usize, Refusal>
     requires { MarksFit of.picture marks.now }
-    ensures verdict { Judged (marks_reasons (state_of of) component marks.now) result }
-    ensures rows { IfOk result (FinishedRows (state_of of) component marks.now) }
+    ensures verdict { Judged (marks_reasons (state_at of 0) component marks.now) result }
+    ensures rows { IfOk result (FinishedRows (state_at of 0) component marks.now) }
 {
     if of.no_such_component(component) {
         return Err(Refusal::NoSuchBlock);

@@ -1,7 +1,7 @@
 -- The component, then its marks: none above 2, and the CTB rows that the first of them fill.
 use Rattle.std.proofs.lemmas.List.{take_rest}
 use Rattle.standard.proofs.Answers.{told_not}
-use Rattle.finishing.specs.Pictures.{state_of}
+use Rattle.lent.specs.States.{state_at}
 use Rattle.finishing.proofs.Finishing.{none_above, finished}
 use Rattle.finishing.proofs.rows_answer.Goals as goal
 
@@ -11,7 +11,7 @@ returns-clause-verdict c =
     let own = c.own_marks-own in (
       told_not c.no_such_component.ensures c.if-no_such_component.false,
       (
-        none_above (state_of a.of) a.component a.marks.now own.result.now own.ensures.len own.ensures.each c.leading_of_many-filtered.ensures
+        none_above (state_at a.of 0) a.component a.marks.now own.result.now own.ensures.len own.ensures.each c.leading_of_many-filtered.ensures
             (rw (← take_rest own.result.now c.leading_of_many-filtered.result) (told_not c.some_of_many.ensures c.if-some_of_many.false)),
         tt,
       ),
@@ -21,4 +21,4 @@ pub returns-clause-rows : goal.returns-clause-rows
 returns-clause-rows c =
     let a = c.args in
     let own = c.own_marks-own in
-    finished (state_of a.of) a.component a.marks.now own.result.now own.ensures.len own.ensures.each c.leading_of_many-filtered.ensures a.of.rules c.sample_rows.ensures
+    finished (state_at a.of 0) a.component a.marks.now own.result.now own.ensures.len own.ensures.each c.leading_of_many-filtered.ensures a.of.rules c.sample_rows.ensures

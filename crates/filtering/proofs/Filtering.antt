@@ -1,42 +1,48 @@
 -- The set that a block is filtered with, what the filter of the block needs, and the plane that it writes.
 use mathlib.Core.Bool.{Bool, true, false}
 use mathlib.Core.List.{List}
-use mathlib.Core.Path.{◌≡◌, sym, ap, ◌∙◌, subst, subst₂}
-use Prim.Native.Nat.{ℕ, zero, suc, ◌*◌, ◌<◌}
+use mathlib.Core.Path.{◌≡◌, sym, ap, ◌∙◌, subst}
+use Prim.Native.Nat.{ℕ, zero, suc, ◌<◌}
 use native.Mathlib.Omega.{arith}
 use lib.ListN.{length}
-use Rattle.standard.specs.declared.Picture.{Picture}
+use Rattle.standard.specs.declared.Rectangle.{Rectangle}
 use Rattle.standard.specs.declared.State.{State}
 use Rattle.standard.specs.declared.Offsets.{Offsets}
 use Rattle.standard.specs.declared.Offsets.TheVariants.{Off, Band, Edge}
 use Rattle.standard.specs.declared.CtuSet.{CtuSet}
 use Rattle.standard.specs.declared.Switches.{Switches}
-use Rattle.standard.specs.Picture.{Rules, plane_width, plane_height, ctu_count, rectangle}
-use Rattle.standard.specs.Sets.{most, Fits, Ruled, Valid, component_of}
-use Rattle.standard.specs.Samples.{layout_of, Parameters, context_of, sample}
-use Rattle.standard.specs.Table.{parameters_in}
-use Rattle.standard.specs.Reasons.{Planes, plane_of}
+use Rattle.standard.specs.Picture.{plane_width, plane_height, rectangle}
+use Rattle.standard.specs.Sets.{most, switches_in, Fits, Ruled, Valid, component_of}
+use Rattle.standard.specs.Samples.{layout_of, Parameters, Context, context_of, sample}
+use Rattle.standard.specs.Refusals.{Clear}
+use Rattle.standard.specs.Table.{Sound, parameters_in, switches_at, offsets_at}
+use Rattle.standard.specs.Reasons.{Planes, plane_of, SetOutsideTheRules, filter_reasons}
 use Rattle.standard.specs.Calls.{Written, Filtered}
+use Rattle.standard.proofs.Onward.{switches_at_lem}
 use Rattle.standard.proofs.Divisors.{plane_width_lem, plane_height_lem}
 use Rattle.standard.proofs.Depths.{depth_in_range, shift_at_most_6}
 use Rattle.standard.proofs.Grid.{ends}
 use Rattle.standard.proofs.Counting.{component_within}
+use Rattle.geometry.specs.declared.block.Block.{Block}
 use Rattle.samples.specs.declared.Around.{Around}
 use Rattle.samples.specs.Around.{Agrees, picture_around}
 use Rattle.samples.specs.Blocks.{Legal, Ready}
 use Rattle.samples.proofs.Open.{agrees_reaches}
 use Rattle.samples.proofs.Picture.{component_agrees}
 use Rattle.sets.specs.Entries.{Holds}
-use Rattle.sets.proofs.Finding.{found_stored}
-use Rattle.standard.proofs.Three.{put, block_written}
-use Rattle.filtering.specs.Filtering.{Chosen, Deep}
+use Rattle.sets.proofs.Finding.{sound_of, found_stored}
+use Rattle.standard.proofs.Granted.{MayFilter, may_filter}
+use Rattle.standard.proofs.Seeing.{scans_itself}
+use Rattle.standard.proofs.Three.{components_most, only_two, plane_long, put, block_written}
+use Rattle.lent.specs.Lengths.{Names}
+use Rattle.filtering.specs.Filtering.{state_at, Chosen, Takes, Sampled}
 
 -- ---- the set
 
 fits_legal : (m : ℕ) (set : Offsets) → Fits m set → Legal set
 fits_legal m Off f = tt
-fits_legal m (Band position o1 o2 o3 o4) f = f.1
-fits_legal m (Edge class o1 o2 o3 o4) f = f.1
+fits_legal m (Band position offsets) f = f.1
+fits_legal m (Edge class offsets) f = f.1
 
 off_legal : (set : Offsets) → set ≡ Off → Legal set
 off_legal set e = subst Legal (sym e) tt
@@ -50,54 +56,95 @@ valid_legal s q zero v = ruled_legal s.luma q.luma _ _ (fits_legal (most s 0) q.
 valid_legal s q (suc zero) v = ruled_legal s.chroma q.cb _ _ (λ f. fits_legal (most s 1) q.cb f.0) (λ e. off_legal q.cb e.0) v.chroma
 valid_legal s q (suc (suc i)) v = ruled_legal s.chroma q.cr _ _ (λ f. fits_legal (most s 2) q.cr f.1) (λ e. off_legal q.cr e.1) v.chroma
 
-pub chosen : {s : Switches} {table : List ℕ} {k : ℕ} {q : CtuSet} {set : Offsets} (i : ℕ) → Holds s table k q → set ≡ component_of q i → Chosen i k table set
-chosen {s} {q} i h e = record { is = e ∙ ap (λ (q : CtuSet). component_of q i) (sym (found_stored h)); legal = subst Legal (sym e) (valid_legal s q i h.rules) }
+-- what is found in the entry of the block's CTU, by what its own syntax depended on
+module _ (b : Block) (table : List ℕ) {w : Switches} (is : w ≡ switches_in b.of.picture) where
+  own_switches : w ≡ switches_at b.of.picture table b.ctb
+  own_switches = is ∙ sym (switches_at_lem b.of.picture table b.ctb)
+
+  pub none_found : ¬ Sound w table b.ctb → SetOutsideTheRules (state_at b 0) table b.ctb
+  none_found = subst (λ (w : Switches). ¬ Sound w table b.ctb) own_switches
+
+  module _ {q : CtuSet} (h : Holds w table b.ctb q) where
+    pub set_sound : ¬ SetOutsideTheRules (state_at b 0) table b.ctb
+    set_sound n = n (subst (λ (w : Switches). Sound w table b.ctb) own_switches (sound_of h))
+
+    pub set_chosen : {set : Offsets} → set ≡ component_of q b.component → Chosen b.component b.ctb table set
+    set_chosen e = record {
+      is = e ∙ ap (λ (q : CtuSet). component_of q b.component) (sym (found_stored h));
+      legal = subst Legal (sym e) (valid_legal w q b.component h.rules);
+    }
 
 -- ---- the block
 
-pub block_answers : {p : Picture} (ps : Parameters) (i : ℕ) {k : ℕ} → Rules p → k < ctu_count p
-    → Agrees (context_of p ps i) (rectangle p i k) (picture_around (layout_of p i) (rectangle p i k))
-unfolding layout_of
-block_answers {p} ps i {k} rules there =
-    let e = ends rules i there in
-    component_agrees p ps i (rectangle p i k) e.right e.bottom
+module _ (b : Block) (ps : Parameters) where
+  abbrev context : Context
+  context = context_of b.of.picture ps b.component
 
-pub block_ready : {p : Picture} (ps : Parameters) (i : ℕ) {k : ℕ} {set : Offsets} {o : Around} {plane out : List ℕ} → Rules p → k < ctu_count p → Legal set
-    → length plane ≡ plane_width p i * plane_height p i → length out ≡ plane_width p i * plane_height p i → Deep p i k plane → Agrees (context_of p ps i) (rectangle p i k) o
-    → Ready (layout_of p i) set o (rectangle p i k) plane out
-unfolding layout_of
-block_ready {p} ps i {k} rules there legal a b deep agrees =
-    let e = ends rules i there in
-    let d = depth_in_range rules i in
-    record {
-      lent = record {
-        wide = (plane_width_lem rules i).most;
-        high = (plane_height_lem rules i).most;
-        columns = omega (arith, e.some_columns);
-        right = e.right;
-        rows = omega (arith, e.some_rows);
-        bottom = e.bottom;
-        deblocked = a;
-        filtered = b;
-      };
-      some_columns = e.some_columns;
-      some_rows = e.some_rows;
-      least = d.0;
-      most = d.1;
-      shift = shift_at_most_6 rules i;
-      legal = legal;
-      deep = deep;
-      reaches = agrees_reaches (layout_of p i) (component_within p ps i) agrees;
+  abbrev own : Rectangle
+  own = rectangle b.of.picture b.component b.ctb
+
+  pub block_answers : Agrees context own (picture_around (layout_of b.of.picture b.component) own)
+  unfolding layout_of
+  block_answers =
+      let e = ends b.of.rules b.component b.ctb_in in
+      component_agrees b.of.picture ps b.component own e.right e.bottom
+
+  pub block_ready : {set : Offsets} {o : Around} {table plane out : List ℕ} → Takes b set table plane out → Agrees context own o → Ready (layout_of b.of.picture b.component) set o own plane out
+  unfolding layout_of
+  block_ready t agrees =
+      let i = b.component in
+      let rules = b.of.rules in
+      let e = ends rules i b.ctb_in in
+      let d = depth_in_range rules i in
+      record {
+        lent = record {
+          wide = (plane_width_lem rules i).most;
+          high = (plane_height_lem rules i).most;
+          columns = omega (arith, e.some_columns);
+          right = e.right;
+          rows = omega (arith, e.some_rows);
+          bottom = e.bottom;
+          deblocked = t.deblocked;
+          filtered = t.filtered;
+        };
+        some_columns = e.some_columns;
+        some_rows = e.some_rows;
+        least = d.0;
+        most = d.1;
+        shift = shift_at_most_6 rules i;
+        legal = t.legal;
+        deep = t.deep;
+        reaches = agrees_reaches (layout_of b.of.picture i) (component_within b.of.picture ps i) agrees;
+      }
+
+-- ---- an accepted call
+
+-- of the block that it names and the set that it chooses
+module _ {s : State} {i k : ℕ} (l o : Planes) (marks table : List ℕ) {b : Block} {set : Offsets} (n : Names s i k b) (h : Chosen i k table set) (c : Clear (filter_reasons s i k l o marks table)) where
+  ok : MayFilter s i k l o marks table
+  ok = may_filter s i k l o marks table c
+
+  pub few : i < 3
+  few = let a = ok.block.component in omega (arith, a, components_most s.picture)
+
+  -- the third arm of a match on the component
+  pub other : ¬ (i ≡ 0) → ¬ (i ≡ 1) → i ≡ 2
+  other = only_two s.picture ok.block.component
+
+  -- plane j is the component's
+  module _ {plane : List ℕ} (e : plane ≡ plane_of l i) (j : ℕ) (own : i ≡ j) where
+    pub takes : Takes b set table plane (plane_of o j)
+    takes = record {
+      legal = h.legal;
+      table_fits = rw n.picture ok.table_fits;
+      deblocked = rw (n.picture, n.component, e) (plane_long i ok.deblocked_fits ok.block.component);
+      filtered = rw (n.picture, n.component) (ap (λ (m : ℕ). length (plane_of o m)) (sym own) ∙ plane_long i ok.filtered_fits ok.block.component);
+      deep = rw (n.picture, n.component, n.ctb, e) (λ x y inside. ok.filterable.low x y (scans_itself ok.rules i (offsets_at table i k) ok.block.ctb inside));
     }
 
--- ---- the plane written
-
-pub block_filtered : (s : State) {i k : ℕ} {table : List ℕ} {set : Offsets} {a : List ℕ} (deblocked filtered : Planes) (j : ℕ) → i ≡ j → j < 3 → Chosen i k table set
-    → Written (plane_width s.picture i) (plane_height s.picture i) (rectangle s.picture i k) (sample (layout_of s.picture i) (context_of s.picture (parameters_in table) i) set (plane_of deblocked j)) (plane_of filtered j) a
-    → Filtered s i k table deblocked filtered (put filtered j a)
-block_filtered s {i} {k} {table} {set} {a} deblocked filtered j e h c w = block_written filtered j e h (subst₂ As c.is (sym e) w)
-  where
-    As : Offsets → ℕ → Type 0
-    As set n =
-        Written (plane_width s.picture i) (plane_height s.picture i) (rectangle s.picture i k) (sample (layout_of s.picture i) (context_of s.picture (parameters_in table) i) set (plane_of deblocked n))
-        (plane_of filtered j) a
+    pub own_filtered : {a : List ℕ} → j < 3 → Sampled b set table plane (plane_of o j) a → Filtered s i k table l o (put o j a)
+    own_filtered {a} m w = block_written o j own m (subst As h.is (rw (← e, ← n.picture, ← n.component, ← n.ctb) w))
+      where
+        As : Offsets → Type 0
+        As set =
+            Written (plane_width s.picture i) (plane_height s.picture i) (rectangle s.picture i k) (sample (layout_of s.picture i) (context_of s.picture (parameters_in table) i) set (plane_of l i)) (plane_of o j) a

@@ -1,5 +1,5 @@
-pub mod Judging
 pub mod Missing
 pub mod Planes
 pub mod Marks
+pub mod Judging
 pub mod Filtering

@@ -1,32 +1,31 @@
--- What the tests of this crate look for, how its answer is put together, and what the filter of the block takes.
-use Rattle.std.specs.Prelude.{◌≡◌, List, ℕ, ◌+◌, ◌*◌, ◌^◌, ◌<◌, get_or}
+-- What the tests of this crate look for, the set that they choose, and what the filter of the block takes.
+use Rattle.std.specs.Prelude.{◌≡◌, List, ℕ, ◌+◌, ◌*◌, ◌^◌, ◌≤◌, ◌<◌, length, get_or}
 use Rattle.standard.specs.declared.Picture.{Picture}
 use Rattle.standard.specs.declared.State.{State}
 use Rattle.standard.specs.declared.Rectangle.{Rectangle}
 use Rattle.standard.specs.declared.Offsets.{Offsets}
-use Rattle.standard.specs.Picture.{Rules, depth_of, components, plane_width, ctu_count, Inside, rectangle}
-use Rattle.standard.specs.Samples.{at, Waits, Scans}
-use Rattle.standard.specs.Table.{offsets_at}
-use Rattle.standard.specs.Refusals.{Reason, First, Clear, number_of}
-use Rattle.standard.specs.Reasons.{mark_of, TooLarge}
+use Rattle.standard.specs.Picture.{depth_of, plane_width, plane_height, Inside, rectangle}
+use Rattle.standard.specs.Samples.{at, Waits, Scans, layout_of, context_of, sample}
+use Rattle.standard.specs.Table.{offsets_at, parameters_in}
+use Rattle.standard.specs.Reasons.{mark_of, TooLarge, TableFits}
+use Rattle.standard.specs.Calls.{Written}
+use Rattle.geometry.specs.declared.block.Block.{Block}
 use Rattle.marks.specs.Marks.{Outside}
 use Rattle.samples.specs.Blocks.{Legal}
-use Rattle.filtering.specs.declared.Ready.{Ready}
-use Rattle.filtering.specs.declared.Ready.TheVariants as ready
 
--- ---- what is named
-
--- a description within the rules, and a component and a CTB that it has
-pub record Named (p : Picture) (i k : ℕ) : Type 0 where
-  pub rules : Rules p
-  pub component : i < components p
-  pub ctb : k < ctu_count p
+-- a state of the block's picture
+abbrev pub state_at : Block → ℕ → State
+state_at b next = record { picture = b.of.picture; next = next }
 
 -- ---- marks
 
--- one of a rectangle of marks, w to a row from a place on
-abbrev pub MarkOutside : ℕ → ℕ → List ℕ → ℕ → ℕ → Rectangle → Type 0
-MarkOutside low high marks from w r = (x : ℕ) × (y : ℕ) × Inside r x y × Outside low high (get_or marks (from + (y * w + x)) 0)
+-- one of row y of a rectangle of marks, w to a row
+abbrev pub RowOutside : ℕ → ℕ → List ℕ → ℕ → Rectangle → ℕ → Type 0
+RowOutside low high marks w r y = (x : ℕ) × ((r.x0 ≤ x) × (x < r.x1)) × Outside low high (get_or marks (y * w + x) 0)
+
+-- one of any row
+abbrev pub MarkOutside : ℕ → ℕ → List ℕ → ℕ → Rectangle → Type 0
+MarkOutside low high marks w r = (x : ℕ) × (y : ℕ) × Inside r x y × Outside low high (get_or marks (y * w + x) 0)
 
 -- that of a CTB that the filter of CTB k by this set waits for
 abbrev pub WaitedOutside : Picture → ℕ → Offsets → ℕ → List ℕ → ℕ → ℕ → Type 0
@@ -45,12 +44,22 @@ pub record Chosen (i k : ℕ) (table : List ℕ) (set : Offsets) : Type 0 where
   pub is : set ≡ offsets_at table i k
   pub legal : Legal set
 
-abbrev pub Readied : List Reason → ℕ → ℕ → List ℕ → Ready → Type 0
-Readied reasons i k table (ready.Go set) = Clear reasons × Chosen i k table set
-Readied reasons i k table (ready.Refused r) = First reasons (number_of r)
-
 -- ---- the block
 
 -- no deblocked sample of CTB k is above the depth
 abbrev pub Deep : Picture → ℕ → ℕ → List ℕ → Type 0
 Deep p i k plane = (x y : ℕ) → Inside (rectangle p i k) x y → at plane (plane_width p i) x y < 2 ^ depth_of p i
+
+-- what the filter of the block takes: a set that is legal, a table and two planes of their sizes, and no deblocked sample above the depth
+pub record Takes (b : Block) (set : Offsets) (table plane out : List ℕ) : Type 0 where
+  pub legal : Legal set
+  pub table_fits : TableFits b.of.picture table
+  pub deblocked : length plane ≡ plane_width b.of.picture b.component * plane_height b.of.picture b.component
+  pub filtered : length out ≡ plane_width b.of.picture b.component * plane_height b.of.picture b.component
+  pub deep : Deep b.of.picture b.component b.ctb plane
+
+-- `after` is the filtered plane `before` with the block's samples by the set, from the deblocked plane
+abbrev pub Sampled : Block → Offsets → List ℕ → List ℕ → List ℕ → List ℕ → Type 0
+Sampled b set table plane before after =
+    Written (plane_width b.of.picture b.component) (plane_height b.of.picture b.component) (rectangle b.of.picture b.component b.ctb)
+    (sample (layout_of b.of.picture b.component) (context_of b.of.picture (parameters_in table) b.component) set plane) before after

@@ -2,97 +2,79 @@
 // into the filtered plane, and its mark becomes 2.
 #![tactic(auto)]
 
-ghost use Rattle.std.specs.Prelude.{◌≡◌, ◌⊎◌, ◌+◌, ◌*◌, ◌≤◌, ◌<◌, length};
-ghost use Rattle.standard.specs.Picture.{Rules, plane_width, plane_height, ctu_count, rectangle};
+ghost use Rattle.std.specs.Prelude.{◌≡◌, ◌⊎◌, ◌*◌, ◌≤◌, ◌<◌, length, IfOk, MatchOption};
+ghost use Rattle.standard.specs.Picture.{plane_width, plane_height, rectangle};
 ghost use Rattle.standard.specs.Sets.{component_of};
-ghost use Rattle.standard.specs.Samples.{layout_of, context_of, sample};
+ghost use Rattle.standard.specs.Samples.{context_of};
 ghost use Rattle.standard.specs.Refusals.{Tells};
 ghost use Rattle.standard.specs.Table.{parameters_in};
-ghost use Rattle.standard.specs.Reasons.{PlanesFit, MarksFit, TableFits, plane_of, SetIsMissing, ready_reasons, stored_reasons, filter_reasons};
-ghost use Rattle.standard.specs.Calls.{Written};
+ghost use Rattle.standard.specs.Reasons.{PlanesFit, MarksFit, TableFits, SetIsMissing, SetOutsideTheRules, ready_reasons, stored_reasons, filter_reasons};
 ghost use Rattle.standard.specs.Ensures.{Judged, FilterEnsures};
-ghost use Rattle.planes.specs.Places.{Placed};
+ghost use Rattle.lent.specs.Lengths.{lists_of, Names};
 ghost use Rattle.samples.specs.Around.{Agrees};
-ghost use Rattle.samples.specs.Blocks.{Legal};
-ghost use Rattle.filtering.specs.Filtering.{MarkOutside, WaitedOutside, ScannedTooLarge, Readied, Named, Deep};
+ghost use Rattle.filtering.specs.Filtering.{state_at, RowOutside, MarkOutside, WaitedOutside, ScannedTooLarge, Chosen, Takes, Sampled};
 
-use lent::{Bytes, Lent, Planes};
+use geometry::Block;
+use lent::{Lent, Planes};
+use marks::Allowed;
+use planes::{Place, Plane};
 use samples::Around;
-use standard::{Answer, CtuSet, Offsets, Outcome, Picture, Rectangle, Refusal, State};
-
-// The set to filter with, or why not.
-#[derive(Clone, Copy)]
-enum Ready {
-    Go(Offsets),
-    Refused(Refusal),
-}
+use standard::{CtuSet, Offsets, Outcome, Refusal, State};
 
 // ---- marks, and whether the set is in
 
-// Whether one of a rectangle of marks, of w by h from a place on, is below low or above high.
-fn mark_outside(
-    marks: &[u8],
-    from: usize,
-    w: usize,
-    h: usize,
-    r: Rectangle,
-    low: u8,
-    high: u8,
-) -> bool
-    requires { Placed w h r × (from + w * h ≤ length marks.now) }
-    ensures { Tells (MarkOutside low high marks.now from w r) result }
+// Whether one of a rectangle of marks is outside, in row y of it. The marks stand row after row.
+fn row_outside(marks: &[u8], place: Place, y: usize, allowed: Allowed) -> bool
+    requires { (place.width * place.height ≤ length marks.now) × (place.rectangle.y0 ≤ y) × (y < place.rectangle.y1) }
+    ensures { Tells (RowOutside allowed.low allowed.high marks.now place.width place.rectangle y) result }
 {
+    let r = place.rectangle;
+    let i = planes::index(place.width, place.height, r.x0, y);
     let n = r.x1 - r.x0;
-    let mut y = r.y0;
-    while y < r.y1 {
-        let i = planes::index(w, h, r.x0, y);
-        if marks::some_outside(marks, from + i, n, low, high) {
-            return true;
-        }
-        y += 1;
-    }
-    false
+    marks::some_outside(&marks[i..i + n], allowed)
 }
 
-// Whether the mark of a CTB is, that the filter of one by this set waits for.
-fn waited_outside(
-    p: Picture,
-    component: u8,
-    set: Offsets,
-    ctb: u32,
-    marks: &[u8],
-    low: u8,
-    high: u8,
-) -> bool
-    requires { Named p component ctb × MarksFit p marks.now }
-    ensures { Tells (WaitedOutside p component set ctb marks.now low high) result }
+// And in any row.
+fn mark_outside(marks: &[u8], place: Place, allowed: Allowed) -> bool
+    requires { place.width * place.height ≤ length marks.now }
+    ensures { Tells (MarkOutside allowed.low allowed.high marks.now place.width place.rectangle) result }
 {
-    let from = geometry::mark_place(p, component, 0);
-    let w = geometry::columns_of(p);
-    let h = geometry::rows_of(p);
-    let r = geometry::around_of(p, ctb);
-    mark_outside(marks, from, w, h, r, low, high)
+    let r = place.rectangle;
+    (r.y0..r.y1).any(|y| row_outside(marks, place, y, allowed))
 }
 
-fn set_is_missing(state: State, ctb: u32) -> bool
-    ensures { Tells (SetIsMissing state ctb) result }
+// Whether the mark of a CTB is, that the filter of the block by this set waits for.
+fn waited_outside(block: Block, set: Offsets, marks: &[u8], allowed: Allowed) -> bool
+    requires { MarksFit block.of.picture marks.now }
+    ensures { Tells (WaitedOutside block.of.picture block.component set block.ctb marks.now allowed.low allowed.high) result }
 {
-    state.next <= ctb
+    let of = block.of;
+    let from = of.mark_place(block.component, 0);
+    let place = Place {
+        width: of.columns(),
+        height: of.rows(),
+        rectangle: block.around(),
+    };
+    mark_outside(&marks[from..from + of.ctu_count()], place, allowed)
+}
+
+fn set_is_missing(block: Block, next: u32) -> bool
+    ensures { Tells (SetIsMissing (state_at block next) block.ctb) result }
+{
+    next <= block.ctb
 }
 
 // Whether the set, or a CTB waited for, is missing. No mark is above 2 where this is asked.
-fn not_ready(state: State, component: u8, set: Offsets, ctb: u32, marks: &[u8]) -> bool
-    requires { Named state.picture component ctb × MarksFit state.picture marks.now }
-    ensures { Tells (SetIsMissing state ctb ⊎ WaitedOutside state.picture component set ctb marks.now 1 2) result }
+fn not_ready(block: Block, next: u32, set: Offsets, marks: &[u8]) -> bool
+    requires { MarksFit block.of.picture marks.now }
+    ensures { Tells (SetIsMissing (state_at block next) block.ctb ⊎ WaitedOutside block.of.picture block.component set block.ctb marks.now 1 2) result }
 {
-    if set_is_missing(state, ctb) {
-        return true;
-    }
-    waited_outside(state.picture, component, set, ctb, marks, 1, 2)
+    set_is_missing(block, next) || waited_outside(block, set, marks, Allowed { low: 1, high: 2 })
 }
 
 // ---- set and samples
 
+// By number, as a call names a component: what the C interface hands in is any number.
 fn component_of(q: CtuSet, component: u8) -> Offsets
     ensures { result ≡ component_of q component }
 {
@@ -103,89 +85,66 @@ fn component_of(q: CtuSet, component: u8) -> Offsets
     }
 }
 
-// Whether a deblocked sample that the filter of the CTB by this set looks at is above the depth.
-fn scanned_too_large(state: State, component: u8, set: Offsets, ctb: u32, plane: &[u16]) -> bool
-    requires rules { Rules state.picture × (ctb < ctu_count state.picture) }
-    requires plane_len { length plane.now ≡ plane_width state.picture component * plane_height state.picture component }
-    ensures { Tells (ScannedTooLarge state component set ctb plane.now) result }
+// The block's own set in the table, where what its CTU's entry holds is within the rules.
+#[tactic(auto, using(crate::proofs::Filtering::none_found))]
+fn stored_set(block: Block, table: &[u8]) -> Option<Offsets>
+    requires { TableFits block.of.picture table.now }
+    ensures { MatchOption result (SetOutsideTheRules (state_at block 0) table.now block.ctb)
+        (λ set. (¬ SetOutsideTheRules (state_at block 0) table.now block.ctb) × Chosen block.component block.ctb table.now set) }
 {
-    let p = state.picture;
-    let w = geometry::plane_width(p, component);
-    let h = geometry::plane_height(p, component);
-    let r = geometry::ctb_rectangle(p, component, ctb);
-    let g = geometry::grown_rectangle(p, component, r);
-    let top = planes::top_of(geometry::depth_of(p, component));
-    planes::some_above(plane, w, h, g, top)
+    let s = geometry::switches_in(block.of.picture);
+    let q = sets::get_set(s, table, block.ctb as usize)?;
+    Some(component_of(q, block.component))
 }
 
-// Of the component's plane.
-fn some_too_large(
-    state: State,
-    component: u8,
-    set: Offsets,
-    ctb: u32,
-    y: &[u16],
-    cb: &[u16],
-    cr: &[u16],
-) -> bool
-    requires named { Named state.picture component ctb }
-    requires planes_fit { PlanesFit state.picture (record { y = y.now; cb = cb.now; cr = cr.now }) }
-    ensures { Tells (ScannedTooLarge state component set ctb (plane_of (record { y = y.now; cb = cb.now; cr = cr.now }) component)) result }
+// Whether a deblocked sample that the filter of the block by this set looks at is above the depth.
+#[tactic(auto, using(standard::proofs::Depths::depth_at_most_16))]
+fn scanned_too_large(block: Block, set: Offsets, samples: &[u16]) -> bool
+    requires { length samples.now ≡ plane_width block.of.picture block.component * plane_height block.of.picture block.component }
+    ensures { Tells (ScannedTooLarge (state_at block 0) block.component set block.ctb samples.now) result }
 {
-    match component {
-        0 => scanned_too_large(state, component, set, ctb, y),
-        1 => scanned_too_large(state, component, set, ctb, cb),
-        _ => scanned_too_large(state, component, set, ctb, cr),
-    }
+    let plane = Plane {
+        samples,
+        width: block.plane_width(),
+        height: block.plane_height(),
+    };
+    let top = planes::top_of(block.depth());
+    plane.some_above(block.grown(), top)
 }
 
 // ---- the reasons to refuse, in document 01's order: the first that holds is the answer
 
 // Marks of CTBs that are waited for, the own mark, and what is missing. What is waited for goes by the
 // set that the table says, within the rules or not.
-fn marks_answer(state: State, component: u8, ctb: u32, marks: &[u8], table: &[u8]) -> Answer
-    requires { Named state.picture component ctb × MarksFit state.picture marks.now × TableFits state.picture table.now }
-    ensures { Judged (ready_reasons state component ctb marks.now table.now) result }
+#[tactic(auto, using(crate::proofs::Marks::none_above, crate::proofs::Marks::not_in))]
+fn marks_answer(block: Block, next: u32, marks: &[u8], table: &[u8]) -> Result<(), Refusal>
+    requires { MarksFit block.of.picture marks.now × TableFits block.of.picture table.now }
+    ensures { Judged (ready_reasons (state_at block next) block.component block.ctb marks.now table.now) result }
 {
-    let p = state.picture;
-    let set = sets::offsets_at(table, ctb as usize, component);
-    if waited_outside(p, component, set, ctb, marks, 0, 2) {
-        return Answer::Refused(Refusal::Stored);
+    let set = sets::offsets_at(table, block.ctb as usize, block.component);
+    if waited_outside(block, set, marks, Allowed { low: 0, high: 2 }) {
+        return Err(Refusal::Stored);
     }
-    if marks::mark_of(p, component, ctb, marks) == 2 {
-        return Answer::Refused(Refusal::FilteredBefore);
+    if marks::mark_of(block, marks) == 2 {
+        return Err(Refusal::FilteredBefore);
     }
-    if not_ready(state, component, set, ctb, marks) {
-        return Answer::Refused(Refusal::NotReady);
+    if not_ready(block, next, set, marks) {
+        return Err(Refusal::NotReady);
     }
-    Answer::Done
+    Ok(())
 }
 
 // The set, and the samples that it is for.
-fn set_answer(
-    state: State,
-    component: u8,
-    ctb: u32,
-    y: &[u16],
-    cb: &[u16],
-    cr: &[u16],
-    table: &[u8],
-) -> Ready
-    requires named { Named state.picture component ctb }
-    requires planes_fit { PlanesFit state.picture (record { y = y.now; cb = cb.now; cr = cr.now }) × TableFits state.picture table.now }
-    ensures { Readied (stored_reasons state component ctb (record { y = y.now; cb = cb.now; cr = cr.now }) table.now) component ctb table.now result }
+fn set_answer(block: Block, deblocked: Planes, table: &[u8]) -> Result<Offsets, Refusal>
+    requires { PlanesFit block.of.picture (lists_of deblocked) × TableFits block.of.picture table.now }
+    ensures verdict { Judged (stored_reasons (state_at block 0) block.component block.ctb (lists_of deblocked.entry) table.now) result }
+    ensures chosen { IfOk result (Chosen block.component block.ctb table.now) }
 {
-    let s = geometry::switches_in(state.picture);
-    match sets::get_set(s, table, ctb as usize) {
-        sets::Found::Bad => Ready::Refused(Refusal::Stored),
-        sets::Found::Set(q) => {
-            let set = component_of(q, component);
-            if some_too_large(state, component, set, ctb, y, cb, cr) {
-                return Ready::Refused(Refusal::Stored);
-            }
-            Ready::Go(set)
-        }
+    let set = stored_set(block, table).ok_or(Refusal::Stored)?;
+    if scanned_too_large(block, set, deblocked.of(block.component)) {
+        return Err(Refusal::Stored);
     }
+    Ok(set)
 }
 
 // The parts, one after the other.
@@ -193,63 +152,43 @@ fn filter_answer(
     state: State,
     component: u8,
     ctb: u32,
-    y: &[u16],
-    cb: &[u16],
-    cr: &[u16],
-    out_y: &[u16],
-    out_cb: &[u16],
-    out_cr: &[u16],
+    deblocked: Planes,
+    filtered: Planes,
     marks: &[u8],
     table: &[u8],
-) -> Ready
-    ensures { Readied (filter_reasons state component ctb (record { y = y.now; cb = cb.now; cr = cr.now }) (record { y = out_y.now; cb = out_cb.now; cr = out_cr.now }) marks.now table.now) component ctb table.now result }
+) -> Result<(Block, Offsets), Refusal>
+    ensures verdict { Judged (filter_reasons state component ctb (lists_of deblocked.entry) (lists_of filtered.entry) marks.now table.now) result }
+    ensures of_call { IfOk result (λ t. Names state component ctb t.0 × Chosen component ctb table.now t.1) }
 {
     let lent = Lent {
-        deblocked: Planes::Lengths(y.len(), cb.len(), cr.len()),
-        filtered: Planes::Lengths(out_y.len(), out_cb.len(), out_cr.len()),
-        marks: Bytes::Length(marks.len()),
-        table: Bytes::Length(table.len()),
+        deblocked: Some(deblocked),
+        filtered: Some(filtered),
+        marks: Some(marks),
+        table: Some(table),
     };
-    match lent::block_answer(state, lent, component, ctb) {
-        Answer::Refused(r) => Ready::Refused(r),
-        Answer::Done => match marks_answer(state, component, ctb, marks, table) {
-            Answer::Refused(r) => Ready::Refused(r),
-            Answer::Done => set_answer(state, component, ctb, y, cb, cr, table),
-        },
-    }
+    let block = lent::block_answer(state, lent, component, ctb)?;
+    marks_answer(block, state.next, marks, table)?;
+    let set = set_answer(block, deblocked, table)?;
+    Ok((block, set))
 }
 
 // ---- the call
 
 // Which of the blocks around a CTB its samples may be compared with, by the picture's parameters.
-fn answers(p: Picture, component: u8, ctb: u32, table: &[u8]) -> Around
-    requires { Rules p × (ctb < ctu_count p) × TableFits p table.now }
-    ensures { Agrees (context_of p (parameters_in table.now) component) (rectangle p component ctb) result }
+fn answers(block: Block, table: &[u8]) -> Around
+    requires { TableFits block.of.picture table.now }
+    ensures { Agrees (context_of block.of.picture (parameters_in table.now) block.component) (rectangle block.of.picture block.component block.ctb) result }
 {
-    let l = geometry::layout_of(p, component);
-    samples::in_picture(l, geometry::ctb_rectangle(p, component, ctb))
+    samples::in_picture(block.layout(), block.rectangle())
 }
 
 // The CTB's samples by its set, from a component's deblocked plane into its filtered plane.
-fn filter_ctb(
-    p: Picture,
-    component: u8,
-    ctb: u32,
-    set: Offsets,
-    table: &[u8],
-    plane: &[u16],
-    out: &mut [u16],
-)
-    requires rules { Rules p × (ctb < ctu_count p) × Legal set × TableFits p table.now }
-    requires plane_len { length plane.now ≡ plane_width p component * plane_height p component }
-    requires out_len { length out.old ≡ plane_width p component * plane_height p component }
-    requires deep { Deep p component ctb plane.now }
-    ensures { Written (plane_width p component) (plane_height p component) (rectangle p component ctb) (sample (layout_of p component) (context_of p (parameters_in table.now) component) set plane.now) out.old out.new }
+fn filter_ctb(block: Block, set: Offsets, table: &[u8], plane: &[u16], out: &mut [u16])
+    requires { Takes block set table.now plane.now out.old }
+    ensures { Sampled block set table.now plane.now out.old out.new }
 {
-    let l = geometry::layout_of(p, component);
-    let o = answers(p, component, ctb, table);
-    let block = geometry::ctb_rectangle(p, component, ctb);
-    samples::filter_block(l, set, o, block, plane, out);
+    let o = answers(block, table);
+    samples::filter_block(block.layout(), set, o, block.rectangle(), plane, out);
 }
 
 pub fn filter(
@@ -264,29 +203,34 @@ pub fn filter(
     out_cr: &mut [u16],
     marks: &mut [u8],
     table: &[u8],
-) -> Outcome
+) -> Outcome<()>
     ensures { FilterEnsures state component ctb (record { y = y.now; cb = cb.now; cr = cr.now }) (record { y = out_y.old; cb = out_cb.old; cr = out_cr.old }) marks.old table.now result (record { y = out_y.new; cb = out_cb.new; cr = out_cr.new }) marks.new }
 {
+    let filtered = Planes {
+        y: out_y,
+        cb: out_cb,
+        cr: out_cr,
+    };
     match filter_answer(
-        state, component, ctb, y, cb, cr, out_y, out_cb, out_cr, marks, table,
+        state,
+        component,
+        ctb,
+        Planes { y, cb, cr },
+        filtered,
+        marks,
+        table,
     ) {
-        Ready::Refused(r) => Outcome {
-            answer: Answer::Refused(r),
-            state,
-        },
-        Ready::Go(set) => {
-            let p = state.picture;
-            let i = geometry::mark_place(p, component, ctb);
-            marks[i] = 2;
+        Err(refusal) => Outcome::refused(refusal, state),
+        Ok((block, set)) => {
+            marks[block.mark_place()] = 2;
+            let plane = Planes { y, cb, cr }.of(component);
+            // Three arms: a function that hands out one of three `&mut` cannot say that the other two stay as they were.
             match component {
-                0 => filter_ctb(p, component, ctb, set, table, y, out_y),
-                1 => filter_ctb(p, component, ctb, set, table, cb, out_cb),
-                _ => filter_ctb(p, component, ctb, set, table, cr, out_cr),
+                0 => filter_ctb(block, set, table, plane, out_y),
+                1 => filter_ctb(block, set, table, plane, out_cb),
+                _ => filter_ctb(block, set, table, plane, out_cr),
             }
-            Outcome {
-                answer: Answer::Done,
-                state,
-            }
+            Outcome::accepted((), state)
         }
     }
 }

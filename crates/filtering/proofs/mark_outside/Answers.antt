@@ -1,37 +1,15 @@
--- Row by row: no mark of a row before is outside.
-use mathlib.Core.Path.{◌≡◌, refl, sym, subst}
-use Prim.Native.Nat.{ℕ, ◌+◌, ◌-◌, ◌*◌, ◌≤◌, ◌<◌}
-use native.Mathlib.Omega.{arith}
-use borrow.Author.Count.{below_more}
-use lib.ListN.{get_or}
-use Rattle.standard.proofs.Answers.{told, told_not}
-use Rattle.marks.specs.Marks.{Outside}
+-- One of a row, or of no row.
+use Rattle.std.proofs.Common.{ℕ, rules, refl, ◌-◌}
+use Rattle.std.proofs.lemmas.Iterator.{cases_from_any, YieldsList-from_range}
+use Rattle.standard.proofs.Answers.{tell_same}
+use Rattle.filtering.specs.Filtering.{RowOutside}
+use Rattle.filtering.proofs.Marks.{tells_some}
 use Rattle.filtering.proofs.mark_outside.Goals as goal
 
--- mark j of a row from column x0 on is that of column x0 + j
-row-mark : (from i w x0 y j u : ℕ) → i ≡ y * w + x0 → u ≡ x0 + j → from + i + j ≡ from + (y * w + u)
-row-mark from i w x0 y j u e f = omega arith
-
-pub returns-then-some_outside : goal.returns-then-some_outside
-returns-then-some_outside c =
+pub returns : goal.returns
+returns c =
     let a = c.args in
-    let t = told c.some_outside.ensures c.if-some_outside.true in
-    let lt = t.1 in
-    let e = row-mark a.from c.index-i.result a.w a.r.x0 c.loop-y.y t.0 (a.r.x0 + t.0) c.index-i.ensures.place refl in (
-      a.r.x0 + t.0,
-      c.loop-y.y,
-      ((omega arith, omega arith), (omega arith, omega arith)),
-      subst (λ (n : ℕ). Outside a.low a.high (get_or a.marks.now n 0)) e t.2,
-    )
-
-pub loop-y-preserved : goal.loop-y-preserved
-loop-y-preserved c =
-    let a = c.args in
-    let none = told_not c.some_outside.ensures c.if-some_outside.false in (
-      omega arith,
-      omega arith,
-      below_more (λ v. a.r.y0 ≤ v → (u : ℕ) → a.r.x0 ≤ u → u < a.r.x1 → ¬ Outside a.low a.high (get_or a.marks.now (a.from + (v * a.w + u)) 0)) c.loop-y.y c.loop-y.invariant.2
-          (λ above u left right o.
-          let e = row-mark a.from c.index-i.result a.w a.r.x0 c.loop-y.y (u - a.r.x0) u c.index-i.ensures.place (omega (arith, left)) in
-          none (u - a.r.x0, omega (arith, left, right), subst (λ (n : ℕ). Outside a.low a.high (get_or a.marks.now n 0)) (sym e) o)),
-    )
+    let r = a.place.rectangle in
+    let At = RowOutside a.allowed.low a.allowed.high a.marks.now a.place.width r in
+    let found = cases_from_any _ _ c.any.result At (λ (y : ℕ). ¬ At y) c.any.ensures.ran (YieldsList-from_range r.y0 r.y1 (r.y1 - r.y0) refl refl) (λ y q k. search rules) (λ y q k. search rules) in
+    tell_same c.any.result (λ (y, l, (x, h, o)). (x, y, (h, l), o)) (λ (x, y, (h, l), o). (y, l, (x, h, o))) (tells_some r.y0 r.y1 At c.any.result found)

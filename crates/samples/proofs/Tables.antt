@@ -42,11 +42,3 @@ by_one s = record { across = way_one s.dx; down = way_one s.dy }
     way_one Back = omega arith
     way_one Stay = omega arith
     way_one On = omega arith
-
--- an entry of such a table, at the place that a class has by another name
-module _ {t : List (List Step)} (steps : Steps t) {class k : ℕ} (h : class < 4) (e : k ≡ class) {s : Step} where
-  pub first_of : s ≡ entry_of t k 0 → step_to s ≡ (steps_of class).0
-  first_of f = ap step_to f ∙ ap (λ (n : ℕ). step_to (entry_of t n 0)) e ∙ steps.first class h
-
-  pub second_of : s ≡ entry_of t k 1 → step_to s ≡ (steps_of class).1
-  second_of f = ap step_to f ∙ ap (λ (n : ℕ). step_to (entry_of t n 1)) e ∙ steps.second class h

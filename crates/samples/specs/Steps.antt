@@ -28,6 +28,11 @@ pub record Steps (table : List (List Step)) : Type 0 where
   pub second : (class : ℕ) → class < 4 → step_to (entry_of table class 1) ≡ (standard.steps_of class).1
   pub negated : (class : ℕ) → class < 4 → step_to (entry_of table class 1) ≡ record { h = neg_ℤ (by (entry_of table class 0).dx); v = neg_ℤ (by (entry_of table class 0).dy) }
 
+-- the two steps of a class
+pub record StepsOf (class : ℕ) (s : Step × Step) : Type 0 where
+  pub first : step_to s.0 ≡ (standard.steps_of class).0
+  pub second : step_to s.1 ≡ (standard.steps_of class).1
+
 -- a step by one at most, across and down
 pub record ByOne (step : standard.Step) : Type 0 where
   pub across : nat_abs step.h ≤ 1

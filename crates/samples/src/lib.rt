@@ -1,7 +1,7 @@
 // The filter of one block (H.265 8.7.3): the deblocked plane is read, the filtered plane is written.
-// One match on the type selects the rule of a block, and one look into a table the two steps of a class;
-// what may not be compared lies outside the loops over samples. Neighbours are samples of the same
-// deblocked plane.
+// One match on type and class selects the rule of a block, and below it the filter by edge goes by the
+// two steps alone; what may not be compared lies outside the loops over samples. Neighbours are
+// samples of the same deblocked plane.
 #![tactic(auto)]
 
 ghost use Rattle.std.specs.Prelude.{◌≡◌, true, ℕ, ◌+◌, ◌*◌, ◌≤◌, ◌<◌, pos, nat_abs, ◌+ℤ◌};
@@ -11,7 +11,7 @@ ghost use Rattle.standard.specs.Sets.{NotNegative};
 ghost use Rattle.standard.specs.Samples.{Context, in_picture, sample};
 ghost use Rattle.standard.specs.Calls.{Written};
 ghost use Rattle.planes.specs.Places.{block, row};
-ghost use Rattle.samples.specs.Steps.{by, step_to, entry_of, Steps};
+ghost use Rattle.samples.specs.Steps.{by, step_to, entry_of, Steps, StepsOf};
 ghost use Rattle.samples.specs.Around.{side_of, row_of, pick_of, answer_of, answered, AllOf, AllOpen, Alike, Parted, Agrees, picture_around};
 ghost use Rattle.samples.specs.Blocks.{Ready};
 ghost use Rattle.samples.specs.Rules.{LentFrom, AsLarge, Becomes, kept, banded, Reaching, edged, edged_if, edged_in, open_in, BlockReady};
@@ -23,12 +23,12 @@ use standard::{Layout, Offsets, Rectangle};
 
 // ---- steps to the neighbours
 
-// Across or down, from a sample to one of its neighbours: back by one, not at all, or on by one.
+// Across or down, from a sample to one of its neighbours: a signed number, of which there are three.
 #[derive(Clone, Copy)]
 enum Way {
-    Back,
-    Stay,
-    On,
+    Back = -1,
+    Stay = 0,
+    On = 1,
 }
 
 // Across and down.
@@ -41,7 +41,7 @@ struct Step {
 use Way::{Back, On, Stay};
 
 // hPos and vPos: four classes by two neighbours.
-static STEPS: [[Step; 2]; 4] = [
+const STEPS: [[Step; 2]; 4] = [
     [Step { dx: Back, dy: Stay }, Step { dx: On, dy: Stay }],
     [Step { dx: Stay, dy: Back }, Step { dx: Stay, dy: On }],
     [Step { dx: Back, dy: Back }, Step { dx: On, dy: On }],
@@ -49,18 +49,32 @@ static STEPS: [[Step; 2]; 4] = [
 ];
 
 // They are those of the definitions, and in each class the second step is the first negated.
-fn steps() -> &'static [[Step; 2]; 4]
-    ensures { Steps result.now }
+fn steps() -> [[Step; 2]; 4]
+    ensures { Steps result }
 {
-    &STEPS
+    STEPS
 }
 
 // Of such a table, the step to neighbour k of a class.
-fn entry(steps: &[[Step; 2]; 4], class: usize, k: usize) -> Step
+fn entry(steps: [[Step; 2]; 4], class: usize, k: usize) -> Step
     requires { (class < 4) × (k < 2) }
-    ensures { result ≡ entry_of steps.now class k }
+    ensures { result ≡ entry_of steps class k }
 {
     steps[class][k]
+}
+
+// The two steps of a class.
+fn steps_of(class: u8) -> (Step, Step)
+    requires { class < 4 }
+    ensures { StepsOf class result }
+{
+    let s = steps();
+    match class {
+        0 => (entry(s, 0, 0), entry(s, 0, 1)),
+        1 => (entry(s, 1, 0), entry(s, 1, 1)),
+        2 => (entry(s, 2, 0), entry(s, 2, 1)),
+        _ => (entry(s, 3, 0), entry(s, 3, 1)),
+    }
 }
 
 impl Way {
@@ -69,7 +83,7 @@ impl Way {
         requires { (v ≤ 8192) × NotNegative (pos v +ℤ by self) }
         ensures { result ≡ nat_abs (pos v +ℤ by self) }
     {
-        v + (self as usize) - 1
+        ((v as isize) + (self as isize)) as usize
     }
 
     // The side of the column, or row, that way from x, of a block from a on up to and without b.
@@ -495,10 +509,7 @@ pub fn filter_block(
         }
         Offsets::Edge { class, offsets } => {
             let moves = moves_of(scaled_by(offsets, l.shift), l.depth);
-            let class = usize::from(class);
-            let s = steps();
-            let a = entry(s, class, 0);
-            let b = entry(s, class, 1);
+            let (a, b) = steps_of(class);
             let rule = ByEdge { from, moves, a, b };
             let block = EdgeBlock { rule, around: o, r };
             block.filter(out);

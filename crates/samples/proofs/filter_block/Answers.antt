@@ -1,38 +1,30 @@
 -- Each arm of the match writes the samples of its rule: as they are, by band, or by the two steps of its class. Under every context that the answers agree with these are the standard's.
 use mathlib.Core.Path.{◌≡◌, ap, ◌∙◌, subst}
-use Prim.Native.Nat.{ℕ, ◌<◌}
+use Prim.Native.Nat.{ℕ}
 use lib.IntN.{ℤ}
 use Rattle.standard.specs.declared.Four.{Four}
 use Rattle.standard.specs.declared.Layout.{Layout}
-use Rattle.standard.specs.Samples.{steps_of}
 use Rattle.standard.specs.Calls.{Written}
 use Rattle.rows.specs.declared.Moves.{Moves}
 use Rattle.rows.specs.Moves.{scaled_by, moves_of}
-use Rattle.samples.specs.Steps.{step_to}
 use Rattle.samples.specs.Blocks.{Legal, by_band}
-use Rattle.samples.proofs.Tables.{first_of, second_of}
 use Rattle.samples.proofs.Standard.{off_block, band_block, edge_block, edge_ready}
 use Rattle.samples.proofs.filter_block.Goals as goal
-use Rattle.samples.proofs.filter_block.Goals.{After-entry-b}
-
-legal : (c : After-entry-b) → c.in-Edge.class < 4
-legal c = subst Legal c.in-Edge.is c.requires.legal
 
 -- the moves are those of the offsets
 moved : (l : Layout) (o : Four ℤ) {s : Four ℤ} {m : Moves} → m ≡ moves_of l.depth s → s ≡ scaled_by l.shift o → m ≡ moves_of l.depth (scaled_by l.shift o)
 moved l o e f = e ∙ ap (moves_of l.depth) f
 
--- the steps are those of the class
-first : (c : After-entry-b) → step_to c.entry-a.result ≡ (steps_of c.in-Edge.class).0
-first c = first_of c.steps-s.ensures (legal c) c.from-class.ensures c.entry-a.ensures
-
-second : (c : After-entry-b) → step_to c.entry-b.result ≡ (steps_of c.in-Edge.class).1
-second c = second_of c.steps-s.ensures (legal c) c.from-class.ensures c.entry-b.ensures
+-- the class is one of four, and the steps are its own
+pub steps_of-requires : goal.steps_of-requires
+steps_of-requires c = subst Legal c.in-Edge.is c.requires.legal
 
 pub invariant_of-block : goal.invariant_of-block
 invariant_of-block c =
-    let e = (goal.at.invariant_of-block c).After-entry-b in
-    record { ready = edge_ready c.requires _ (moved c.args.l c.in-Edge.offsets c.moves_of-moves-in-Edge.ensures c.scaled_by-in-Edge.ensures) (legal e) (first e) (second e) }
+    let s = c.steps_of.ensures in
+    record {
+      ready = edge_ready c.requires _ (moved c.args.l c.in-Edge.offsets c.moves_of-moves-in-Edge.ensures c.scaled_by-in-Edge.ensures) (subst Legal c.in-Edge.is c.requires.legal) s.first s.second;
+    }
 
 pub returns-in-Off : goal.returns-in-Off
 returns-in-Off c context g = off_block c.requires g c.in-Off.is c.rows.ensures
@@ -46,5 +38,6 @@ returns-in-Band c context g =
 
 pub returns-in-Edge : goal.returns-in-Edge
 returns-in-Edge c context g =
-    let e = (goal.at.returns-in-Edge c).After-entry-b in
-    edge_block c.requires g (legal e) (first e) (second e) c.in-Edge.is (moved c.args.l c.in-Edge.offsets c.moves_of-moves-in-Edge.ensures c.scaled_by-in-Edge.ensures) c.filter.ensures
+    let s = c.steps_of.ensures in
+    edge_block c.requires g (subst Legal c.in-Edge.is c.requires.legal) s.first s.second c.in-Edge.is
+    (moved c.args.l c.in-Edge.offsets c.moves_of-moves-in-Edge.ensures c.scaled_by-in-Edge.ensures) c.filter.ensures

@@ -1,14 +1,15 @@
--- The entry of the CTU that is due, and those of its neighbours, lie in a table of the right length.
+-- Of a CTU that is due: its entry and those of its neighbours lie in a table of the right length, and none of the first reasons holds.
 use Rattle.std.specs.Prelude.{Option, Some as some, None as none}
 use mathlib.Core.Path.{◌≡◌, refl}
-use mathlib.Core.List.{List}
+use mathlib.Core.List.{List, ◌++◌}
 use Prim.Native.Nat.{ℕ, ◌+◌, ◌*◌, ◌≤◌, ◌<◌}
 use native.Mathlib.Omega.{arith}
 use lib.ListN.{length}
 use Rattle.standard.specs.declared.Picture.{Picture}
 use Rattle.standard.specs.Picture.{ctu_count, due, merge_left, merge_up}
 use Rattle.standard.specs.Table.{entry_size}
-use Rattle.standard.specs.Reasons.{TableFits}
+use Rattle.standard.specs.Refusals.{Clear}
+use Rattle.standard.specs.Reasons.{TableFits, call_reasons, due_reasons}
 use Rattle.standard.proofs.Grid.{count_most}
 use Rattle.standard.proofs.Order.{address_lt, Before, left_before, up_before}
 use Rattle.geometry.specs.declared.due.Due.{Due}
@@ -42,3 +43,7 @@ module _ (d : Due) (table : List ℕ) (fits : TableFits d.of.picture table) wher
 
   pub due_fits : entry_size * due (state_of d) + entry_size ≤ length table
   due_fits = entry_fits d.of.picture table fits (address_lt d.of.picture d.there)
+
+  -- none of the reasons with which reading and writing begin holds
+  pub due_clear : Clear (call_reasons (state_of d) (TableFits d.of.picture table) ++ due_reasons (state_of d))
+  due_clear = (λ n. n d.of.rules, (λ n. n fits, (λ l. omega (arith, l, d.there), (λ l. omega (arith, l, d.there), tt))))

@@ -2,7 +2,8 @@
 use mathlib.Core.Path.{◌≡◌, refl, sym, ap, ◌∙◌}
 use mathlib.Core.Bool.{Bool, true, false}
 use mathlib.Core.List.{List, [], ◌∷◌, ◌++◌}
-use Rattle.std.specs.Prelude.{Option, Some as some, None as none}
+use Rattle.std.specs.Prelude.{Option, Some as some, None as none, is_some, Ok}
+use Rattle.std.specs.Result.{result_ok}
 use Rattle.standard.specs.declared.CtuSet.{CtuSet}
 use Rattle.standard.specs.declared.Switches.{Switches}
 use Rattle.standard.specs.Sets.{Valid, all_off}
@@ -11,13 +12,18 @@ use Rattle.standard.specs.Means.{any_on, not_taken, Means, no_bins, merged_left,
 use Rattle.standard.proofs.Codes.{impossible}
 use Rattle.bins.specs.declared.Form.{Form}
 use Rattle.bins.specs.declared.Form.TheVariants.{Left, Up, Full}
-use Rattle.bins.specs.Forms.{is_there, ReadAs}
+use Rattle.bins.specs.Forms.{ReadAs}
 use Rattle.bins.proofs.Contracts.{read_form_unique}
+
+-- bins of one form have no other
+pub one_form : (s : Switches) (has_left has_up : Bool) (bins : List Bool) {f g : Form} → ReadAs s has_left has_up bins (Ok f) → ReadAs s has_left has_up bins (Ok g) → f ≡ g
+one_form s has_left has_up bins {f} {g} h k =
+    let same : some f ≡ some g = ap result_ok (read_form_unique s has_left has_up bins (Ok f) (Ok g) h k) in cc
 
 -- ---- bins of a merge, or of none
 
 -- the bin of a merge that is not taken depends on no set
-same_bin : (a b : Option CtuSet) → is_there a ≡ is_there b → not_taken a ≡ not_taken b
+same_bin : (a b : Option CtuSet) → is_some a ≡ is_some b → not_taken a ≡ not_taken b
 same_bin none none e = refl
 same_bin none (some q) e = impossible cc
 same_bin (some q) none e = impossible cc
@@ -25,13 +31,13 @@ same_bin (some q) (some p) e = refl
 
 module _ (s : Switches) (left up : Option CtuSet) (bins : List Bool) where
   abbrev As : Form → Type 0
-  As f = ReadAs s (is_there left) (is_there up) bins f
+  As f = ReadAs s (is_some left) (is_some up) bins (Ok f)
 
-  pub left_form : any_on s ≡ true → is_there left ≡ true → bins ≡ true ∷ [] → As Left
+  pub left_form : any_on s ≡ true → is_some left ≡ true → bins ≡ true ∷ [] → As Left
   left_form on h e none u hl hu = impossible cc
   left_form on h e (some q) u hl hu = (q, refl, merged_left on refl e)
 
-  pub up_form : any_on s ≡ true → is_there up ≡ true → bins ≡ not_taken left ++ (true ∷ []) → As Up
+  pub up_form : any_on s ≡ true → is_some up ≡ true → bins ≡ not_taken left ++ (true ∷ []) → As Up
   up_form on h e l none hl hu = impossible cc
   up_form on h e l (some q) hl hu = (q, refl, merged_up on refl (e ∙ ap (λ (x : List Bool). x ++ (true ∷ [])) (same_bin left l (sym hl))))
 
@@ -51,14 +57,14 @@ module _ (s : Switches) (left up : Option CtuSet) (bins : List Bool) where
 -- ---- and back
 
 module _ {s : Switches} {left up : Option CtuSet} {bins : List Bool} {q : CtuSet} where
-  pub left_bins : ReadAs s (is_there left) (is_there up) bins Left → Means s left up q bins → bins ≡ true ∷ []
-  left_bins h (no_bins off d e) = let same : Left ≡ Full all_off = read_form_unique s _ _ bins _ _ h (off_form s left up bins off e) in impossible cc
+  pub left_bins : ReadAs s (is_some left) (is_some up) bins (Ok Left) → Means s left up q bins → bins ≡ true ∷ []
+  left_bins h (no_bins off d e) = let same : Left ≡ Full all_off = one_form s _ _ bins h (off_form s left up bins off e) in impossible cc
   left_bins h (merged_left on d e) = e
-  left_bins h (merged_up on d e) = let same : Left ≡ Up = read_form_unique s _ _ bins _ _ h (up_form s left up bins on (ap is_there d) e) in impossible cc
-  left_bins h (in_full on v e) = let same : Left ≡ Full q = read_form_unique s _ _ bins _ _ h (full_form s left up bins on v e) in impossible cc
+  left_bins h (merged_up on d e) = let same : Left ≡ Up = one_form s _ _ bins h (up_form s left up bins on (ap is_some d) e) in impossible cc
+  left_bins h (in_full on v e) = let same : Left ≡ Full q = one_form s _ _ bins h (full_form s left up bins on v e) in impossible cc
 
-  pub up_bins : ReadAs s (is_there left) (is_there up) bins Up → Means s left up q bins → bins ≡ not_taken left ++ (true ∷ [])
-  up_bins h (no_bins off d e) = let same : Up ≡ Full all_off = read_form_unique s _ _ bins _ _ h (off_form s left up bins off e) in impossible cc
-  up_bins h (merged_left on d e) = let same : Up ≡ Left = read_form_unique s _ _ bins _ _ h (left_form s left up bins on (ap is_there d) e) in impossible cc
+  pub up_bins : ReadAs s (is_some left) (is_some up) bins (Ok Up) → Means s left up q bins → bins ≡ not_taken left ++ (true ∷ [])
+  up_bins h (no_bins off d e) = let same : Up ≡ Full all_off = one_form s _ _ bins h (off_form s left up bins off e) in impossible cc
+  up_bins h (merged_left on d e) = let same : Up ≡ Left = one_form s _ _ bins h (left_form s left up bins on (ap is_some d) e) in impossible cc
   up_bins h (merged_up on d e) = e
-  up_bins h (in_full on v e) = let same : Up ≡ Full q = read_form_unique s _ _ bins _ _ h (full_form s left up bins on v e) in impossible cc
+  up_bins h (in_full on v e) = let same : Up ≡ Full q = one_form s _ _ bins h (full_form s left up bins on v e) in impossible cc

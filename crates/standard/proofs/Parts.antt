@@ -77,6 +77,12 @@ pub judged_back : {T : Type 0} (front back : List Reason) (a : Result T Refusal)
 judged_back front back (Ok x) c d = clear_both front back c d
 judged_back front back (Err r) c f = first_back front back (number_of r) c f
 
+-- and what is decided with it
+pub decided_back : {T : Type 0} (front back : List Reason) (a : Result T Refusal) (done : T → Type 0) (before : Type 0) → Clear front → Decides back a done before
+    → Decides (front ++ back) a done before
+decided_back front back (Ok x) done before c h = (clear_both front back c h.0, h.1)
+decided_back front back (Err r) done before c h = (first_back front back (number_of r) c h.0, h.1)
+
 -- a refusal for the front that `?` passes on, and what else is decided with it
 pub passed_on : {T : Type 0} (front back : List Reason) (r : Refusal) (a : Result T Refusal) → IsErrAnd a (λ e. e ≡ r) → First front (number_of r) → Judged (front ++ back) a
 passed_on front back r (Ok x) e f = absurd e

@@ -2,97 +2,92 @@
 #![tactic(auto)]
 
 ghost use Rattle.std.specs.Prelude.{◌≡◌};
-ghost use Rattle.standard.specs.Reasons.{set_reasons};
-ghost use Rattle.standard.specs.Ensures.{WriteDecides, Wrote as AtTheFront, WriteEnsures};
-ghost use Rattle.geometry.specs.Geometry.{near_of};
-ghost use Rattle.lent.specs.Due.{Due, InTable};
-ghost use Rattle.writer.specs.Forms.{beside_of};
-ghost use Rattle.writing.specs.Writing.{FindsBeside, SetWritten};
+ghost use Rattle.standard.specs.Reasons.{TableFits, set_reasons, write_reasons};
+ghost use Rattle.standard.specs.Ensures.{Decides, Wrote, WriteEnsures};
+ghost use Rattle.geometry.specs.Dues.{state_of};
+ghost use Rattle.lent.specs.InTable.{InTable};
+ghost use Rattle.writing.specs.Writing.{FindsBeside, SetWritten, HasWritten};
 
-use geometry::Near;
-use lent::{Bytes, Lent, Planes};
-use sets::Found;
-use standard::{Answer, CtuSet, Refusal, State, Switches, WriteAnswer, WriteOutcome};
-use writer::{Beside, Wrote};
+use geometry::Due;
+use lent::Lent;
+use standard::{CtuSet, Outcome, Refusal, State, Switches};
+use writer::NoRoom;
 
-// What stands beside the CTU: the neighbour's set or none, or bytes that are no set within the rules.
-#[derive(Clone, Copy)]
-enum FoundBeside {
-    Sound(Beside),
-    Bad,
-}
-
-fn beside(state: State, table: &[u8], k: Near) -> FoundBeside
-    requires { InTable table.now (near_of k) }
-    ensures { FindsBeside state table.now (near_of k) result }
+// What stands beside the CTU: the neighbour's set, where there is a neighbour. Bytes that are no set within the rules are
+// refused.
+#[tactic(auto, using(sets::proofs::Finding::found_stored, sets::proofs::Finding::sound_of))]
+fn beside(due: Due, table: &[u8], near: Option<u32>) -> Result<Option<CtuSet>, Refusal>
+    requires { InTable table.now near }
+    ensures { FindsBeside (state_of due) table.now near result }
 {
-    let s = geometry::switches_of(state);
-    match k {
-        Near::Nothing => FoundBeside::Sound(Beside::Nothing),
-        Near::At(n) => match sets::get_set(s, table, n as usize) {
-            Found::Bad => FoundBeside::Bad,
-            Found::Set(q) => FoundBeside::Sound(Beside::Set(q)),
+    match near {
+        None => Ok(None),
+        Some(k) => match sets::get_set(due.switches(), table, k as usize) {
+            None => Err(Refusal::Stored),
+            Some(set) => Ok(Some(set)),
         },
     }
 }
 
 // The reasons of the set, and its bins where none holds.
-fn set_written(s: Switches, left: Beside, up: Beside, q: CtuSet, out: &mut [u8]) -> WriteAnswer
-    ensures { SetWritten s (beside_of left) (beside_of up) q out.old out.new result }
+#[tactic(auto, using(crate::proofs::Setting::no_room, crate::proofs::Setting::spelled))]
+fn set_written(
+    s: Switches,
+    left: Option<CtuSet>,
+    up: Option<CtuSet>,
+    q: CtuSet,
+    out: &mut [u8],
+) -> Result<usize, Refusal>
+    ensures { SetWritten s left up q out.old out.new result }
 {
     if !writer::has_bins(s, left, up, q) {
-        return WriteAnswer::Refused(Refusal::NoBins);
+        return Err(Refusal::NoBins);
     }
+    // A match: over `map_err` and over `or` the proof did not close.
     match writer::write_set(s, left, up, q, out) {
-        Wrote::NoRoom => WriteAnswer::Refused(Refusal::NoRoom),
-        Wrote::Bins(n) => WriteAnswer::Bins(n),
+        Err(NoRoom) => Err(Refusal::NoRoom),
+        Ok(n) => Ok(n),
     }
 }
 
 // The reasons from the neighbours' sets on, and the bins where none holds.
-fn bins_written(state: State, q: CtuSet, out: &mut [u8], table: &[u8]) -> WriteAnswer
-    requires { Due state table.now }
-    ensures { WriteDecides (set_reasons state q out.old table.now) result (λ n. AtTheFront state q out.old table.now n out.new) (out.new ≡ out.old) }
+#[tactic(auto, using(lent::proofs::Ready::left_in_table, lent::proofs::Ready::up_in_table))]
+fn bins_written(due: Due, q: CtuSet, out: &mut [u8], table: &[u8]) -> Result<usize, Refusal>
+    requires { TableFits due.of.picture table.now }
+    ensures { Decides (set_reasons (state_of due) q out.old table.now) result (λ n. Wrote (state_of due) q out.old table.now n out.new) (out.new ≡ out.old) }
 {
-    let l = beside(state, table, geometry::merge_left(state));
-    let u = beside(state, table, geometry::merge_up(state));
-    match l {
-        FoundBeside::Bad => WriteAnswer::Refused(Refusal::Stored),
-        FoundBeside::Sound(left) => match u {
-            FoundBeside::Bad => WriteAnswer::Refused(Refusal::Stored),
-            FoundBeside::Sound(up) => set_written(geometry::switches_of(state), left, up, q, out),
-        },
-    }
+    let left = beside(due, table, due.merge_left())?;
+    let up = beside(due, table, due.merge_up())?;
+    set_written(due.switches(), left, up, q, out)
 }
 
-pub fn write(state: State, q: CtuSet, out: &mut [u8], table: &mut [u8]) -> WriteOutcome
-    ensures { WriteEnsures state q out.old table.old result out.new table.new }
+// The CTU that is due and how many bins its set has, or the first of the reasons.
+fn write_answer(
+    state: State,
+    q: CtuSet,
+    out: &mut [u8],
+    table: &[u8],
+) -> Result<(Due, usize), Refusal>
+    ensures { Decides (write_reasons state q out.old table.now) result (HasWritten state q out.old table.now out.new) (out.new ≡ out.old) }
 {
     let lent = Lent {
-        deblocked: Planes::NotLent,
-        filtered: Planes::NotLent,
-        marks: Bytes::NotLent,
-        table: Bytes::Length(table.len()),
+        table: Some(table),
+        ..Lent::default()
     };
-    match lent::due_answer(state, lent) {
-        Answer::Refused(r) => WriteOutcome {
-            answer: WriteAnswer::Refused(r),
-            state,
-        },
-        Answer::Done => match bins_written(state, q, out, table) {
-            WriteAnswer::Refused(r) => WriteOutcome {
-                answer: WriteAnswer::Refused(r),
-                state,
-            },
-            WriteAnswer::Bins(n) => {
-                let after = state.advanced();
-                let k = geometry::due_of(state);
-                sets::put_set(table, k as usize, q);
-                WriteOutcome {
-                    answer: WriteAnswer::Bins(n),
-                    state: after,
-                }
-            }
-        },
+    let due = lent::due_answer(state, lent)?;
+    let n = bins_written(due, q, out, table)?;
+    Ok((due, n))
+}
+
+#[tactic(auto, using(lent::proofs::Ready::due_fits))]
+pub fn write(state: State, q: CtuSet, out: &mut [u8], table: &mut [u8]) -> Outcome<usize>
+    ensures { WriteEnsures state q out.old table.old result out.new table.new }
+{
+    match write_answer(state, q, out, table) {
+        Err(refusal) => Outcome::refused(refusal, state),
+        Ok((due, n)) => {
+            sets::put_set(table, due.ctu() as usize, q);
+            Outcome::accepted(n, state.advanced())
+        }
     }
 }

@@ -1,81 +1,52 @@
--- The form of the bins gives the answer, arm by arm; the neighbours' entries lie in the table.
-use borrow.Author.Rules.{rules}
-use Rattle.std.specs.Prelude.{Option}
-use mathlib.Core.Path.{◌≡◌, sym, subst, subst₂}
+-- The form of the bins gives the answer, arm by arm.
+use mathlib.Core.Path.{◌≡◌, ap, ◌∙◌, subst, subst₂}
 use Prim.Native.Nat.{ℕ}
-use Rattle.standard.specs.Picture.{merge_left, merge_up}
+use Rattle.std.specs.Prelude.{Option, Result, Ok, Err, is_some}
 use Rattle.standard.specs.declared.Switches.{Switches}
-use Rattle.standard.specs.Sets.{switches_of}
-use Rattle.standard.specs.Bins.{bins_of}
-use Rattle.bins.specs.Forms.{ReadAs}
-use Rattle.geometry.specs.Geometry.{near_of}
 use Rattle.bins.specs.declared.Form.{Form}
-use Rattle.lent.specs.Due.{InTable}
-use Rattle.lent.proofs.Ready.{left_in_table, up_in_table}
-use Rattle.reading.specs.Reading.{There, Copied}
-use Rattle.reading.proofs.Answering.{Formed, formed, answer_early, answer_remain, answer_left, answer_up, answer_full}
+use Rattle.bins.specs.declared.BinsError.{BinsError}
+use Rattle.geometry.specs.Dues.{state_of}
+use Rattle.reading.specs.Reading.{Copied}
+use Rattle.reading.proofs.Answering.{ReadHere, read_here, answer_early, answer_remain, answer_left, answer_up, answer_full}
 use Rattle.reading.proofs.bins_answer.Goals as goal
-use Rattle.reading.proofs.bins_answer.Goals.{After-merge_up-up, After-read_form-form}
+use Rattle.reading.proofs.bins_answer.Goals.{After-read_form}
 
-left_is : (c : After-merge_up-up) → near_of c.merge_left-left.result ≡ merge_left c.args.state
-left_is c = c.merge_left-left.ensures
-
-up_is : (c : After-merge_up-up) → near_of c.merge_up-up.result ≡ merge_up c.args.state
-up_is c = c.merge_up-up.ensures
-
--- either neighbour's entry lies in the table
-near_in_table : (c : After-merge_up-up) → InTable c.args.table.now (near_of c.merge_left-left.result) × InTable c.args.table.now (near_of c.merge_up-up.result)
-near_in_table c = (
-  subst (InTable c.args.table.now) (sym (left_is c)) (left_in_table c.requires.0),
-  subst (InTable c.args.table.now) (sym (up_is c)) (up_in_table c.requires.0),
-)
-
--- read and copied by the switches of the CTU that is due
-by_switches : (c : After-read_form-form) → c.switches_of-s.result ≡ switches_of c.args.state
-by_switches c = c.switches_of-s.ensures
-
-form : (c : After-read_form-form) (f : Form) → c.read_form-form.result ≡ f
-    → let a = c.args in
-    Formed a.state a.bytes.now a.count a.table.now f
-form c f e =
+-- what was read of the CTU that is due
+form : (c : After-read_form) {r : Result Form BinsError} → c.read_form.result ≡ r → let a = c.args in ReadHere (state_of a.due) a.bytes.now a.count a.table.now r
+form c e =
     let a = c.args in
-    subst (Formed a.state a.bytes.now a.count a.table.now) e
-    (formed a.state a.bytes.now a.count a.table.now c.read_form-form.result
-    (subst (λ (w : Switches). ReadAs w c.is_there.result c.is_there-2.result (bins_of a.bytes.now a.count) c.read_form-form.result) (by_switches c) c.read_form-form.ensures)
-    (subst (λ (o : Option ℕ). There o c.is_there.result) c.merge_left-left.ensures c.is_there.ensures)
-    (subst (λ (o : Option ℕ). There o c.is_there-2.result) c.merge_up-up.ensures c.is_there-2.ensures))
+    subst (ReadHere (state_of a.due) a.bytes.now a.count a.table.now) e
+    (read_here (state_of a.due) a.bytes.now a.count a.table.now _ c.switches-s.ensures (c.is_some.ensures ∙ ap is_some c.merge_left-left.ensures)
+    (c.is_some-2.ensures ∙ ap is_some c.merge_up-up.ensures) c.read_form.ensures)
 
-pub copied-requires : goal.copied-requires
-copied-requires c = search (rules, near_in_table (goal.at.copied-requires c).After-merge_up-up)
-
-pub copied-requires-in-Up : goal.copied-requires-in-Up
-copied-requires-in-Up c = search (rules, near_in_table (goal.at.copied-requires-in-Up c).After-merge_up-up)
-
-pub returns-in-TooEarly : goal.returns-in-TooEarly
-returns-in-TooEarly c =
+pub returns-in-Err-TooEarly : goal.returns-in-Err-TooEarly
+returns-in-Err-TooEarly c =
     let a = c.args in
-    answer_early a.state a.bytes.now a.count a.table.now (form (goal.at.returns-in-TooEarly c).After-read_form-form _ c.in-TooEarly.is)
+    let here = c.in-Err-TooEarly in
+    answer_early (state_of a.due) a.bytes.now a.count a.table.now (form (goal.at.returns-in-Err-TooEarly c).After-read_form (here.is ∙ ap Err here.field-0-is))
 
-pub returns-in-BinsRemain : goal.returns-in-BinsRemain
-returns-in-BinsRemain c =
+pub returns-in-Err-BinsRemain : goal.returns-in-Err-BinsRemain
+returns-in-Err-BinsRemain c =
     let a = c.args in
-    answer_remain a.state a.bytes.now a.count a.table.now (form (goal.at.returns-in-BinsRemain c).After-read_form-form _ c.in-BinsRemain.is)
+    let here = c.in-Err-BinsRemain in
+    answer_remain (state_of a.due) a.bytes.now a.count a.table.now (form (goal.at.returns-in-Err-BinsRemain c).After-read_form (here.is ∙ ap Err here.field-0-is))
 
-pub returns-in-Left : goal.returns-in-Left
-returns-in-Left c =
-    let here = goal.at.returns-in-Left c in
+pub returns-in-Ok-Left : goal.returns-in-Ok-Left
+returns-in-Ok-Left c =
     let a = c.args in
-    answer_left a.state a.bytes.now a.count a.table.now (form here.After-read_form-form _ c.in-Left.is) c.copied.result
-    (subst₂ (λ (w : Switches) (o : Option ℕ). Copied w a.table.now o c.copied.result) (by_switches here.After-read_form-form) (left_is here.After-merge_up-up) c.copied.ensures)
+    let here = c.in-Ok-Left in
+    answer_left (state_of a.due) a.bytes.now a.count a.table.now (form (goal.at.returns-in-Ok-Left c).After-read_form (here.is ∙ ap Ok here.field-0-is)) c.copied.result
+    (subst₂ (λ (w : Switches) (k : Option ℕ). Copied w a.table.now k c.copied.result) c.switches-s.ensures c.merge_left-left.ensures c.copied.ensures)
 
-pub returns-in-Up : goal.returns-in-Up
-returns-in-Up c =
-    let here = goal.at.returns-in-Up c in
+pub returns-in-Ok-Up : goal.returns-in-Ok-Up
+returns-in-Ok-Up c =
     let a = c.args in
-    answer_up a.state a.bytes.now a.count a.table.now (form here.After-read_form-form _ c.in-Up.is) c.copied-in-Up.result
-    (subst₂ (λ (w : Switches) (o : Option ℕ). Copied w a.table.now o c.copied-in-Up.result) (by_switches here.After-read_form-form) (up_is here.After-merge_up-up) c.copied-in-Up.ensures)
+    let here = c.in-Ok-Up in
+    answer_up (state_of a.due) a.bytes.now a.count a.table.now (form (goal.at.returns-in-Ok-Up c).After-read_form (here.is ∙ ap Ok here.field-0-is)) c.copied-in-Ok-Up.result
+    (subst₂ (λ (w : Switches) (k : Option ℕ). Copied w a.table.now k c.copied-in-Ok-Up.result) c.switches-s.ensures c.merge_up-up.ensures c.copied-in-Ok-Up.ensures)
 
-pub returns-in-Full : goal.returns-in-Full
-returns-in-Full c =
+pub returns-in-Ok-Full : goal.returns-in-Ok-Full
+returns-in-Ok-Full c =
     let a = c.args in
-    answer_full a.state a.bytes.now a.count a.table.now (form (goal.at.returns-in-Full c).After-read_form-form _ c.in-Full.is)
+    let here = c.in-Ok-Full in
+    answer_full (state_of a.due) a.bytes.now a.count a.table.now (form (goal.at.returns-in-Ok-Full c).After-read_form (here.is ∙ ap Ok here.field-0-is))

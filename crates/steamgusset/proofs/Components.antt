@@ -9,22 +9,18 @@ use native.Mathlib.Omega.{arith}
 use Rattle.standard.specs.declared.State.{State}
 use Rattle.standard.specs.Refusals.{Reason, First, Clear}
 use Rattle.standard.specs.Reasons.{Planes, PlanesFit, MarksFit, TableFits, NoSuchComponent}
-use Rattle.standard.specs.Reasons.{description_reasons, call_reasons, block_reasons, samples_reasons, ready_reasons, stored_reasons, marks_reasons, deliver_reasons, filter_reasons, rows_reasons}
+use Rattle.standard.specs.Reasons.{call_reasons, block_reasons, samples_reasons, ready_reasons, stored_reasons, marks_reasons, deliver_reasons, filter_reasons, rows_reasons}
 use Rattle.standard.proofs.Called.{absent_block, absent_marks}
 use Rattle.standard.proofs.Numbers.{first_unique, first_not_clear}
 use Rattle.standard.proofs.Parts.{clear_front, clear_back, first_front, first_back, first_either}
 use Rattle.standard.proofs.Three.{components_most}
 use Rattle.steamgusset.specs.Boundary.{in_byte}
+use Rattle.steamgusset.proofs.Crossing.{Crosses}
 
 pub in_byte_is : (i : ℕ) → i ≤ 255 → in_byte i ≡ i
 in_byte_is i l = omega arith
 
 -- ---- the reasons of a call, by the component
-
--- those of the byte are those of the number
-pub record Crosses (reasons : ℕ → List Reason) : Type 0 where
-  pub first : (i n : ℕ) → First (reasons (in_byte i)) n → First (reasons i) n
-  pub clear : (i : ℕ) → Clear (reasons (in_byte i)) → in_byte i ≡ i
 
 -- the front does not speak of the component, and the next part refuses with m from 255 on
 module _ (front : List Reason) (named rest : ℕ → List Reason) (m : ℕ) (absent : (i : ℕ) → 255 ≤ i → First (named i) m) where
@@ -74,6 +70,3 @@ module _ (s : State) where
   rows_crosses filtered marks =
       crosses (call_reasons s (PlanesFit s.picture filtered × MarksFit s.picture marks)) (λ i. marks_reasons s i marks) (λ i. []) 3
       (λ i l. absent_marks s i marks (absent i l))
-
-  pub block_crosses : (k : ℕ) → Crosses (λ i. description_reasons s ++ block_reasons s i k)
-  block_crosses k = crosses (description_reasons s) (λ i. block_reasons s i k) (λ i. []) 3 (no_block k)

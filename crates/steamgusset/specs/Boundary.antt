@@ -1,9 +1,11 @@
 -- The numbers that cross: the version; a state, each of its numbers at the place that is named here; what a caller has to lend as fourteen,
 -- the place of a block as four.
-use Rattle.std.specs.Prelude.{Bool, true, false, cond, List, [], ◌∷◌, ℕ, zero, suc, ◌+◌, ◌*◌, ◌≤◌, min, ltb, get_or, set, replicate}
+use Rattle.std.specs.Prelude.{Bool, true, false, cond, List, [], ◌∷◌, ℕ, zero, suc, ◌+◌, ◌*◌, ◌≤◌, min, ltb, get_or, set, replicate, Result, Ok, Err}
 use Rattle.standard.specs.declared.Picture.{Picture}
 use Rattle.standard.specs.declared.State.{State}
 use Rattle.standard.specs.declared.Rectangle.{Rectangle}
+use Rattle.standard.specs.declared.Refusal.{Refusal}
+use Rattle.standard.specs.Refusals.{number_of}
 use Rattle.standard.specs.Picture.{components, plane_width, plane_height, samples_of, columns, rows, ctu_count}
 use Rattle.standard.specs.Table.{entry_size}
 use Rattle.standard.specs.Reasons.{mark_count}
@@ -113,6 +115,13 @@ pub record Held (a : List ℕ) : Type 0 where
 
 abbrev pub in_byte : ℕ → ℕ
 in_byte i = min i 255
+
+-- ---- an answer
+
+-- 0, or the number of the refusal
+abbrev pub code_of : {T : Type 0} → Result T Refusal → ℕ
+code_of (Ok x) = 0
+code_of (Err r) = number_of r
 
 -- ---- what a caller has to lend
 

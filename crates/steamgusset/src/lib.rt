@@ -5,13 +5,12 @@
 // the number of its refusal; what else it has to say it leaves in lent memory. A refusal leaves all that is lent as it was.
 #![tactic(auto)]
 
-ghost use Rattle.std.specs.Prelude.{◌<◌, ◌≡◌};
-ghost use Rattle.standard.specs.Picture.{Rules};
-ghost use Rattle.standard.specs.Refusals.{Tells};
-ghost use Rattle.steamgusset.specs.Boundary.{version, Held, numbers_of, state_of, in_byte, width_of, height_of, sizes_of};
+ghost use Rattle.std.specs.Prelude.{◌≡◌, ◌≤◌, MatchOption};
+ghost use Rattle.steamgusset.specs.Boundary.{version, is_on, Held, numbers_of, state_of, in_byte, code_of, width_of, height_of, sizes_of};
 ghost use Rattle.steamgusset.specs.Exports.{OpenCrosses, ReadCrosses, WriteCrosses, DeliverCrosses, FilterCrosses, RowsCrosses, SizesCross, BlockCrosses};
 
-use standard::{Answer, BitDepths, Picture, ReadAnswer, RowsAnswer, SET_BYTES, State, WriteAnswer};
+use geometry::Described;
+use standard::{BitDepths, Picture, Refusal, SET_BYTES, State};
 
 // ---- the version
 
@@ -51,56 +50,43 @@ const NUMBERS: usize = NEXT + 1;
 
 // ---- what crosses
 
-// Whether the fields of a state hold the numbers.
-fn is_held(a: &[u32; NUMBERS]) -> bool
-    ensures { Tells (Held a.now) result }
+// The answer to numbers that no state holds.
+const NOT_DESCRIBED: u32 = Refusal::Description as u32;
+
+fn switch_of(n: u32) -> Option<bool>
+    ensures { MatchOption result (¬ (n ≤ 1)) (λ on. (n ≤ 1) × (on ≡ is_on n)) }
 {
-    if a[FORMAT] > 255 {
-        return false;
+    match n {
+        0 => Some(false),
+        1 => Some(true),
+        _ => None,
     }
-    if a[LUMA_DEPTH] > 255 {
-        return false;
-    }
-    if a[CHROMA_DEPTH] > 255 {
-        return false;
-    }
-    if a[LUMA] > 1 {
-        return false;
-    }
-    a[CHROMA] <= 1
 }
 
-fn state_of(a: &[u32; NUMBERS]) -> State
-    requires { Held a.now }
-    ensures { result ≡ state_of a.now }
+// The state that the numbers say; None where its fields do not hold them.
+#[tactic(auto, unfolding(crate::specs::Boundary::state_of))]
+fn held(a: &[u32; NUMBERS]) -> Option<State>
+    ensures { MatchOption result (¬ Held a.now) (λ s. Held a.now × (s ≡ state_of a.now)) }
 {
-    let width = a[WIDTH];
-    let height = a[HEIGHT];
-    let ctb = a[CTB];
-    let format = a[FORMAT] as u8;
-    let luma_depth = a[LUMA_DEPTH] as u8;
-    let chroma_depth = a[CHROMA_DEPTH] as u8;
-    let luma = a[LUMA] != 0;
-    let chroma = a[CHROMA] != 0;
-    let next = a[NEXT];
     let depth = BitDepths {
-        luma: luma_depth,
-        chroma: chroma_depth,
+        luma: u8::try_from(a[LUMA_DEPTH]).ok()?,
+        chroma: u8::try_from(a[CHROMA_DEPTH]).ok()?,
     };
     let picture = Picture {
-        width,
-        height,
-        ctb,
-        format,
+        width: a[WIDTH],
+        height: a[HEIGHT],
+        ctb: a[CTB],
+        format: u8::try_from(a[FORMAT]).ok()?,
         depth,
-        luma,
-        chroma,
+        luma: switch_of(a[LUMA])?,
+        chroma: switch_of(a[CHROMA])?,
     };
-    State { picture, next }
+    Some(State {
+        picture,
+        next: a[NEXT],
+    })
 }
 
-// All of them at once, in an array of its own: how long one behind a reference is, the prover is not told, and so it
-// follows no store to one of its places.
 fn numbers_of(s: State) -> [u32; NUMBERS]
     ensures { result ≡ numbers_of s }
 {
@@ -123,10 +109,16 @@ fn numbers_of(s: State) -> [u32; NUMBERS]
 fn in_byte(component: u32) -> u8
     ensures { result ≡ in_byte component }
 {
-    if component > 255 {
-        255
-    } else {
-        component as u8
+    u8::try_from(component).unwrap_or(255)
+}
+
+// What a call answers that has no value.
+fn code(answer: Result<(), Refusal>) -> u32
+    ensures { result ≡ code_of answer }
+{
+    match answer {
+        Err(r) => r.number(),
+        Ok(()) => 0,
     }
 }
 
@@ -136,17 +128,14 @@ fn in_byte(component: u32) -> u8
 pub extern "C" fn sg_open(state: &mut [u32; NUMBERS], marks: &mut [u8]) -> u32
     ensures { OpenCrosses state.old marks.old result state.new marks.new }
 {
-    if !is_held(state) {
-        return 1;
-    }
-    let s = state_of(state);
+    let Some(s) = held(state) else {
+        return NOT_DESCRIBED;
+    };
     let o = opening::open(s, marks);
-    let a = o.answer;
-    match a {
-        Answer::Refused(r) => r.number(),
-        Answer::Done => {
-            let opened = o.state;
-            *state = numbers_of(opened);
+    match o.answer {
+        Err(r) => r.number(),
+        Ok(()) => {
+            *state = numbers_of(o.state);
             0
         }
     }
@@ -162,17 +151,14 @@ pub extern "C" fn sg_read(
 ) -> u32
     ensures { ReadCrosses state.old bins.now count table.old set.old result state.new table.new set.new }
 {
-    if !is_held(state) {
-        return 1;
-    }
-    let s = state_of(state);
+    let Some(s) = held(state) else {
+        return NOT_DESCRIBED;
+    };
     let o = reading::read(s, bins, count, table);
-    let a = o.answer;
-    match a {
-        ReadAnswer::Refused(r) => r.number(),
-        ReadAnswer::Set(q) => {
-            let advanced = o.state;
-            *state = numbers_of(advanced);
+    match o.answer {
+        Err(r) => r.number(),
+        Ok(q) => {
+            *state = numbers_of(o.state);
             sets::say_set(set, q);
             0
         }
@@ -189,16 +175,14 @@ pub extern "C" fn sg_write(
 ) -> u32
     ensures { WriteCrosses state.old set.now out.old table.old count.old result state.new out.new table.new count.new }
 {
-    if !is_held(state) {
-        return 1;
-    }
-    let o = writing::write(state_of(state), sets::set_said(set), out, table);
-    let a = o.answer;
-    match a {
-        WriteAnswer::Refused(r) => r.number(),
-        WriteAnswer::Bins(n) => {
-            let after = o.state;
-            *state = numbers_of(after);
+    let Some(s) = held(state) else {
+        return NOT_DESCRIBED;
+    };
+    let o = writing::write(s, sets::set_said(set), out, table);
+    match o.answer {
+        Err(r) => r.number(),
+        Ok(n) => {
+            *state = numbers_of(o.state);
             *count = n;
             0
         }
@@ -218,17 +202,12 @@ pub extern "C" fn sg_deliver(
 ) -> u32
     ensures { DeliverCrosses state.now component ctb samples.now (record { y = y.old; cb = cb.old; cr = cr.old }) marks.old result (record { y = y.new; cb = cb.new; cr = cr.new }) marks.new }
 {
-    if !is_held(state) {
-        return 1;
-    }
-    let s = state_of(state);
+    let Some(s) = held(state) else {
+        return NOT_DESCRIBED;
+    };
     let i = in_byte(component);
     let o = delivering::deliver(s, i, ctb, samples, y, cb, cr, marks);
-    let a = o.answer;
-    match a {
-        Answer::Refused(r) => r.number(),
-        Answer::Done => 0,
-    }
+    code(o.answer)
 }
 
 #[unsafe(no_mangle)]
@@ -247,17 +226,12 @@ pub extern "C" fn sg_filter(
 ) -> u32
     ensures { FilterCrosses state.now component ctb (record { y = y.now; cb = cb.now; cr = cr.now }) (record { y = out_y.old; cb = out_cb.old; cr = out_cr.old }) marks.old table.now result (record { y = out_y.new; cb = out_cb.new; cr = out_cr.new }) marks.new }
 {
-    if !is_held(state) {
-        return 1;
-    }
-    let s = state_of(state);
+    let Some(s) = held(state) else {
+        return NOT_DESCRIBED;
+    };
     let i = in_byte(component);
     let o = filtering::filter(s, i, ctb, y, cb, cr, out_y, out_cb, out_cr, marks, table);
-    let a = o.answer;
-    match a {
-        Answer::Refused(r) => r.number(),
-        Answer::Done => 0,
-    }
+    code(o.answer)
 }
 
 // Of the finished rows, which are the caller's own, how many rows and how many samples there are.
@@ -273,18 +247,17 @@ pub extern "C" fn sg_finished_rows(
 ) -> u32
     ensures { RowsCrosses state.now component (record { y = y.now; cb = cb.now; cr = cr.now }) marks.now finished.old result finished.new }
 {
-    if !is_held(state) {
-        return 1;
-    }
-    let s = state_of(state);
+    let Some(s) = held(state) else {
+        return NOT_DESCRIBED;
+    };
+    let Some(of) = Described::of(s.picture) else {
+        return NOT_DESCRIBED;
+    };
     let i = in_byte(component);
-    let o = finishing::finished_count(s, i, y, cb, cr, marks);
-    let a = o.answer;
-    match a {
-        RowsAnswer::Refused(r) => r.number(),
-        RowsAnswer::Rows(n) => {
-            let samples = n * geometry::plane_width(s.picture, i);
-            *finished = [n, samples];
+    match finishing::finished_count(s, i, y, cb, cr, marks).answer {
+        Err(r) => r.number(),
+        Ok(n) => {
+            *finished = [n, n * of.plane_width(i)];
             0
         }
     }
@@ -292,46 +265,39 @@ pub extern "C" fn sg_finished_rows(
 
 // ---- what a caller has to lend
 
-// An absent component has a plane of no width and no height.
-fn width_of(p: Picture, i: u8) -> usize
-    requires { Rules p }
-    ensures { result ≡ width_of p i }
+// The width and the height of a component's plane. An absent component has a plane of no width and no height.
+fn sides_of(of: Described, component: u8) -> (usize, usize)
+    ensures { result ≡ (width_of of.picture component, height_of of.picture component) }
 {
-    if geometry::no_such_component(p, i) {
-        return 0;
+    if of.no_such_component(component) {
+        (0, 0)
+    } else {
+        (of.plane_width(component), of.plane_height(component))
     }
-    geometry::plane_width(p, i)
 }
 
-fn height_of(p: Picture, i: u8) -> usize
-    requires { Rules p }
-    ensures { result ≡ height_of p i }
+#[tactic(auto, unfolding(crate::specs::Boundary::sizes_of))]
+fn sizes_of(of: Described) -> [usize; 14]
+    ensures { result ≡ sizes_of of.picture }
 {
-    if geometry::no_such_component(p, i) {
-        return 0;
-    }
-    geometry::plane_height(p, i)
-}
-
-fn sizes_of(p: Picture) -> [usize; 14]
-    requires { Rules p }
-    ensures { result ≡ sizes_of p }
-{
+    let (y_width, y_height) = sides_of(of, 0);
+    let (cb_width, cb_height) = sides_of(of, 1);
+    let (cr_width, cr_height) = sides_of(of, 2);
     [
-        width_of(p, 0),
-        width_of(p, 1),
-        width_of(p, 2),
-        height_of(p, 0),
-        height_of(p, 1),
-        height_of(p, 2),
-        geometry::sample_count(p, 0),
-        geometry::sample_count(p, 1),
-        geometry::sample_count(p, 2),
-        geometry::columns_of(p),
-        geometry::rows_of(p),
-        geometry::ctu_count(p),
-        geometry::mark_count(p),
-        geometry::table_size(p),
+        y_width,
+        cb_width,
+        cr_width,
+        y_height,
+        cb_height,
+        cr_height,
+        of.sample_count(0),
+        of.sample_count(1),
+        of.sample_count(2),
+        of.columns(),
+        of.rows(),
+        of.ctu_count(),
+        of.mark_count(),
+        of.table_size(),
     ]
 }
 
@@ -339,14 +305,13 @@ fn sizes_of(p: Picture) -> [usize; 14]
 pub extern "C" fn sg_sizes(state: &[u32; NUMBERS], sizes: &mut [usize; 14]) -> u32
     ensures { SizesCross state.now sizes.old result sizes.new }
 {
-    if !is_held(state) {
-        return 1;
-    }
-    let s = state_of(state);
+    let Some(s) = held(state) else {
+        return NOT_DESCRIBED;
+    };
     match lent::described_answer(s) {
-        Answer::Refused(r) => r.number(),
-        Answer::Done => {
-            *sizes = sizes_of(s.picture);
+        Err(r) => r.number(),
+        Ok(of) => {
+            *sizes = sizes_of(of);
             0
         }
     }
@@ -362,15 +327,14 @@ pub extern "C" fn sg_block(
 ) -> u32
     ensures { BlockCrosses state.now component ctb block.old result block.new }
 {
-    if !is_held(state) {
-        return 1;
-    }
-    let s = state_of(state);
+    let Some(s) = held(state) else {
+        return NOT_DESCRIBED;
+    };
     let i = in_byte(component);
     match lent::named_answer(s, i, ctb) {
-        Answer::Refused(r) => r.number(),
-        Answer::Done => {
-            let r = geometry::ctb_rectangle(s.picture, i, ctb);
+        Err(r) => r.number(),
+        Ok(b) => {
+            let r = b.rectangle();
             *block = [r.x0, r.x1, r.y0, r.y1];
             0
         }

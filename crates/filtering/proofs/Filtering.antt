@@ -35,7 +35,8 @@ use Rattle.standard.proofs.Granted.{MayFilter, may_filter}
 use Rattle.standard.proofs.Seeing.{scans_itself}
 use Rattle.standard.proofs.Three.{components_most, only_two, plane_long, put, block_written}
 use Rattle.lent.specs.Lengths.{Names}
-use Rattle.filtering.specs.Filtering.{state_at, Chosen, Takes, Sampled}
+use Rattle.filtering.specs.Filtering.{Chosen, Takes, Sampled}
+use Rattle.lent.specs.States.{state_at}
 
 -- ---- the set
 
@@ -61,11 +62,11 @@ module _ (b : Block) (table : List ℕ) {w : Switches} (is : w ≡ switches_in b
   own_switches : w ≡ switches_at b.of.picture table b.ctb
   own_switches = is ∙ sym (switches_at_lem b.of.picture table b.ctb)
 
-  pub none_found : ¬ Sound w table b.ctb → SetOutsideTheRules (state_at b 0) table b.ctb
+  pub none_found : ¬ Sound w table b.ctb → SetOutsideTheRules (state_at b.of 0) table b.ctb
   none_found = subst (λ (w : Switches). ¬ Sound w table b.ctb) own_switches
 
   module _ {q : CtuSet} (h : Holds w table b.ctb q) where
-    pub set_sound : ¬ SetOutsideTheRules (state_at b 0) table b.ctb
+    pub set_sound : ¬ SetOutsideTheRules (state_at b.of 0) table b.ctb
     set_sound n = n (subst (λ (w : Switches). Sound w table b.ctb) own_switches (sound_of h))
 
     pub set_chosen : {set : Offsets} → set ≡ component_of q b.component → Chosen b.component b.ctb table set

@@ -14,7 +14,7 @@ use Rattle.geometry.specs.declared.block.Block.{Block}
 use Rattle.lent.specs.declared.Planes.{Planes}
 use Rattle.lent.specs.Lengths.{lists_of, LentRight, Names}
 use Rattle.lent.proofs.Lengths.{begun}
-use Rattle.filtering.specs.Filtering.{state_at}
+use Rattle.lent.specs.States.{state_at}
 
 passed : {T : Type 0} (rs : List Reason) (r : Refusal) (a : Result T Refusal) → IsErrAnd a (λ e. e ≡ r) → First rs (number_of r) → Judged rs a
 passed rs r (Ok x) e f = absurd e
@@ -48,14 +48,14 @@ module _ (s : State) (i k : ℕ) (l o : Planes) (marks table : Bor (List ℕ)) w
     first_passed f = passed all r a e (first_front (named ++ ready) stored (number_of r) (first_front named ready (number_of r) (begins {T = Unit {0}} (Err r) f)))
 
     module _ {b : Block} (n : Names s i k b) (c : Begun (Ok b)) where
-      pub second_passed : First (ready_reasons (state_at b s.next) b.component b.ctb marks.now table.now) (number_of r) → Judged all a
+      pub second_passed : First (ready_reasons (state_at b.of s.next) b.component b.ctb marks.now table.now) (number_of r) → Judged all a
       second_passed f = passed all r a e (first_front (named ++ ready) stored (number_of r) (first_back named ready (number_of r) (begins (Ok b) c) (rw (← n.picture, ← n.component, ← n.ctb) f)))
 
-      pub third_passed : Clear (ready_reasons (state_at b s.next) b.component b.ctb marks.now table.now) → First (stored_reasons (state_at b 0) b.component b.ctb (lists_of l) table.now) (number_of r) → Judged all a
+      pub third_passed : Clear (ready_reasons (state_at b.of s.next) b.component b.ctb marks.now table.now) → First (stored_reasons (state_at b.of 0) b.component b.ctb (lists_of l) table.now) (number_of r) → Judged all a
       third_passed d f =
           passed all r a e
           (first_back (named ++ ready) stored (number_of r) (clear_both named ready (begins (Ok b) c) (rw (← n.picture, ← n.component, ← n.ctb) d)) (rw (← n.picture, ← n.component, ← n.ctb) f))
 
-  pub all_clear : {b : Block} → Names s i k b → Begun (Ok b) → Clear (ready_reasons (state_at b s.next) b.component b.ctb marks.now table.now) → Clear (stored_reasons (state_at b 0) b.component b.ctb (lists_of l) table.now) → Clear all
+  pub all_clear : {b : Block} → Names s i k b → Begun (Ok b) → Clear (ready_reasons (state_at b.of s.next) b.component b.ctb marks.now table.now) → Clear (stored_reasons (state_at b.of 0) b.component b.ctb (lists_of l) table.now) → Clear all
   all_clear {b} n c d f =
       clear_both (named ++ ready) stored (clear_both named ready (begins (Ok b) c) (rw (← n.picture, ← n.component, ← n.ctb) d)) (rw (← n.picture, ← n.component, ← n.ctb) f)

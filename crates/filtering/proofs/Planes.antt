@@ -15,7 +15,8 @@ use Rattle.standard.proofs.Seeing.{scans_grown, grown_scans}
 use Rattle.geometry.specs.declared.block.Block.{Block}
 use Rattle.planes.specs.Places.{Placed}
 use Rattle.planes.specs.Scans.{BlockAbove}
-use Rattle.filtering.specs.Filtering.{state_at, ScannedTooLarge}
+use Rattle.filtering.specs.Filtering.{ScannedTooLarge}
+use Rattle.lent.specs.States.{state_at}
 
 module _ (b : Block) where
   pub grown_placed : Placed (plane_width b.of.picture b.component) (plane_height b.of.picture b.component) (grown b.of.picture b.component (rectangle b.of.picture b.component b.ctb))
@@ -35,7 +36,7 @@ module _ (b : Block) where
 
   pub tells_scanned : (set : Offsets) (plane : List ℕ) (t : Bool)
       → Tells (BlockAbove plane (plane_width b.of.picture b.component) (grown b.of.picture b.component (rectangle b.of.picture b.component b.ctb)) (2 ^ depth_of b.of.picture b.component - 1)) t
-      → Tells (ScannedTooLarge (state_at b 0) b.component set b.ctb plane) t
+      → Tells (ScannedTooLarge (state_at b.of 0) b.component set b.ctb plane) t
   tells_scanned set plane t =
       let p = b.of.picture in
       let i = b.component in

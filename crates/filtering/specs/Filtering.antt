@@ -13,10 +13,6 @@ use Rattle.geometry.specs.declared.block.Block.{Block}
 use Rattle.marks.specs.Marks.{Outside}
 use Rattle.samples.specs.Blocks.{Legal}
 
--- a state of the block's picture, with the sets of so many CTUs in; reasons that read no more of a state than its picture are said of 0
-abbrev pub state_at : Block → ℕ → State
-state_at b next = record { picture = b.of.picture; next = next }
-
 -- ---- marks
 
 -- one of row y of a rectangle of marks, w to a row

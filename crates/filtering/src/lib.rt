@@ -12,7 +12,8 @@ ghost use Rattle.standard.specs.Reasons.{PlanesFit, MarksFit, TableFits, SetIsMi
 ghost use Rattle.standard.specs.Ensures.{Judged, FilterEnsures};
 ghost use Rattle.lent.specs.Lengths.{lists_of, Names};
 ghost use Rattle.samples.specs.Around.{Agrees};
-ghost use Rattle.filtering.specs.Filtering.{state_at, RowOutside, MarkOutside, WaitedOutside, ScannedTooLarge, Chosen, Takes, Sampled};
+ghost use Rattle.filtering.specs.Filtering.{RowOutside, MarkOutside, WaitedOutside, ScannedTooLarge, Chosen, Takes, Sampled};
+ghost use Rattle.lent.specs.States.{state_at};
 
 use geometry::Block;
 use lent::{Lent, Planes};
@@ -59,7 +60,7 @@ fn waited_outside(block: Block, set: Offsets, marks: &[u8], allowed: Allowed) ->
 }
 
 fn set_is_missing(block: Block, next: u32) -> bool
-    ensures { Tells (SetIsMissing (state_at block next) block.ctb) result }
+    ensures { Tells (SetIsMissing (state_at block.of next) block.ctb) result }
 {
     next <= block.ctb
 }
@@ -67,7 +68,7 @@ fn set_is_missing(block: Block, next: u32) -> bool
 // Whether the set, or a CTB waited for, is missing. No mark is above 2 where this is asked.
 fn not_ready(block: Block, next: u32, set: Offsets, marks: &[u8]) -> bool
     requires { MarksFit block.of.picture marks.now }
-    ensures { Tells (SetIsMissing (state_at block next) block.ctb ⊎ WaitedOutside block.of.picture block.component set block.ctb marks.now 1 2) result }
+    ensures { Tells (SetIsMissing (state_at block.of next) block.ctb ⊎ WaitedOutside block.of.picture block.component set block.ctb marks.now 1 2) result }
 {
     set_is_missing(block, next) || waited_outside(block, set, marks, Allowed { low: 1, high: 2 })
 }
@@ -89,8 +90,8 @@ fn component_of(q: CtuSet, component: u8) -> Offsets
 #[tactic(auto, using(crate::proofs::Filtering::none_found))]
 fn stored_set(block: Block, table: &[u8]) -> Option<Offsets>
     requires { TableFits block.of.picture table.now }
-    ensures { MatchOption result (SetOutsideTheRules (state_at block 0) table.now block.ctb)
-        (λ set. (¬ SetOutsideTheRules (state_at block 0) table.now block.ctb) × Chosen block.component block.ctb table.now set) }
+    ensures { MatchOption result (SetOutsideTheRules (state_at block.of 0) table.now block.ctb)
+        (λ set. (¬ SetOutsideTheRules (state_at block.of 0) table.now block.ctb) × Chosen block.component block.ctb table.now set) }
 {
     let s = geometry::switches_in(block.of.picture);
     let q = sets::get_set(s, table, block.ctb as usize)?;
@@ -101,7 +102,7 @@ fn stored_set(block: Block, table: &[u8]) -> Option<Offsets>
 #[tactic(auto, using(standard::proofs::Depths::depth_at_most_16))]
 fn scanned_too_large(block: Block, set: Offsets, samples: &[u16]) -> bool
     requires { length samples.now ≡ plane_width block.of.picture block.component * plane_height block.of.picture block.component }
-    ensures { Tells (ScannedTooLarge (state_at block 0) block.component set block.ctb samples.now) result }
+    ensures { Tells (ScannedTooLarge (state_at block.of 0) block.component set block.ctb samples.now) result }
 {
     let plane = Plane {
         samples,
@@ -119,7 +120,7 @@ fn scanned_too_large(block: Block, set: Offsets, samples: &[u16]) -> bool
 #[tactic(auto, using(crate::proofs::Marks::none_above, crate::proofs::Marks::not_in))]
 fn marks_answer(block: Block, next: u32, marks: &[u8], table: &[u8]) -> Result<(), Refusal>
     requires { MarksFit block.of.picture marks.now × TableFits block.of.picture table.now }
-    ensures { Judged (ready_reasons (state_at block next) block.component block.ctb marks.now table.now) result }
+    ensures { Judged (ready_reasons (state_at block.of next) block.component block.ctb marks.now table.now) result }
 {
     let set = sets::offsets_at(table, block.ctb as usize, block.component);
     if waited_outside(block, set, marks, Allowed { low: 0, high: 2 }) {
@@ -137,7 +138,7 @@ fn marks_answer(block: Block, next: u32, marks: &[u8], table: &[u8]) -> Result<(
 // The set, and the samples that it is for.
 fn set_answer(block: Block, deblocked: Planes, table: &[u8]) -> Result<Offsets, Refusal>
     requires { PlanesFit block.of.picture (lists_of deblocked) × TableFits block.of.picture table.now }
-    ensures verdict { Judged (stored_reasons (state_at block 0) block.component block.ctb (lists_of deblocked.entry) table.now) result }
+    ensures verdict { Judged (stored_reasons (state_at block.of 0) block.component block.ctb (lists_of deblocked.entry) table.now) result }
     ensures chosen { IfOk result (Chosen block.component block.ctb table.now) }
 {
     let set = stored_set(block, table).ok_or(Refusal::Stored)?;

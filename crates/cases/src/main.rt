@@ -25,7 +25,7 @@ use bins::{BinsError, Form};
 use records::{pair, print_bytes, print_set, read_record};
 use standard::{BitDepths, CtuSet, Picture, Switches};
 use std::{fmt, io};
-use writer::NoRoom;
+use writer::{Ctu, NoRoom};
 
 // How many bytes the head of a record has, and how many head and body.
 const HEAD: usize = 72;
@@ -109,58 +109,54 @@ fn neighbour(
     Ok(Some(set))
 }
 
-// What the bins of a CTU depend on, and the neighbours that a merge may reach.
-#[derive(Clone, Copy)]
-struct Ctu {
-    s: Switches,
-    left: Option<CtuSet>,
-    up: Option<CtuSet>,
-}
-
-impl Ctu {
-    fn of(record: &[u8; RECORD]) -> Result<Ctu, Refused> {
-        let picture = picture_of(record);
-        if !geometry::is_described(picture) {
-            return Err(Refused::Description);
-        }
-        let s = geometry::switches_in(picture);
-        let left = neighbour(s, record, record[54], 0)?;
-        let up = neighbour(s, record, record[55], 1)?;
-        Ok(Ctu { s, left, up })
+fn ctu_of(record: &[u8; RECORD]) -> Result<Ctu, Refused> {
+    let picture = picture_of(record);
+    if !geometry::is_described(picture) {
+        return Err(Refused::Description);
     }
-
-    // The set of the bins. They merge only with a neighbour that is there: that one is missing is never answered.
-    fn read(self, bytes: &[u8], count: usize) -> Result<CtuSet, Refused>
-        requires { count < 65536 }
-    {
-        if (count + 7) / 8 > bytes.len() {
-            return Err(Refused::Count);
-        }
-        match bins::read_form(self.s, self.left.is_some(), self.up.is_some(), bytes, count)? {
-            Form::Left => self.left.ok_or(Refused::NoNeighbour),
-            Form::Up => self.up.ok_or(Refused::NoNeighbour),
-            Form::Full(q) => Ok(q),
-        }
-    }
+    let switches = geometry::switches_in(picture);
+    let left = neighbour(switches, record, record[54], 0)?;
+    let up = neighbour(switches, record, record[55], 1)?;
+    Ok(Ctu { switches, left, up })
 }
 
 // ---- record after record
 
+// The set of the bins. They merge only with a neighbour that is there: that one is missing is never answered.
+fn set_read(ctu: Ctu, bytes: &[u8], count: usize) -> Result<CtuSet, Refused>
+    requires { count < 65536 }
+{
+    if (count + 7) / 8 > bytes.len() {
+        return Err(Refused::Count);
+    }
+    match bins::read_form(
+        ctu.switches,
+        ctu.left.is_some(),
+        ctu.up.is_some(),
+        bytes,
+        count,
+    )? {
+        Form::Left => ctu.left.ok_or(Refused::NoNeighbour),
+        Form::Up => ctu.up.ok_or(Refused::NoNeighbour),
+        Form::Full(q) => Ok(q),
+    }
+}
+
 // Reads or writes, as the record says.
 fn answered(record: &mut [u8; RECORD]) -> Result<Answer<'_>, Refused> {
-    let ctu = Ctu::of(record)?;
+    let ctu = ctu_of(record)?;
     let end = HEAD + usize::from(record[70]);
     if end > RECORD {
         return Err(Refused::Length);
     }
     if record[56] == 0 {
         let count = pair(record[68], record[69]) as usize;
-        let set = ctu.read(&record[HEAD..end], count)?;
+        let set = set_read(ctu, &record[HEAD..end], count)?;
         return Ok(Answer::Read(set));
     }
-    let set = sets::get_set(ctu.s, record, 2).ok_or(Refused::Set)?;
+    let set = sets::get_set(ctu.switches, record, 2).ok_or(Refused::Set)?;
     let lent = &mut record[HEAD..end];
-    let bins = writer::write_set(ctu.s, ctu.left, ctu.up, set, lent);
+    let bins = ctu.write_set(set, lent);
     Ok(Answer::Written(bins, lent))
 }
 

@@ -13,6 +13,14 @@ ghost use Rattle.writer.specs.Outcome.{WritesSet};
 use sink::{Count, Put, Sink};
 use standard::{CtuSet, Switches};
 
+// What the bins of a CTU depend on: the switches, and the sets of the neighbours that a merge may reach.
+#[derive(Clone, Copy)]
+pub struct Ctu {
+    pub switches: Switches,
+    pub left: Option<CtuSet>,
+    pub up: Option<CtuSet>,
+}
+
 // The shapes of a CTU's bins: none, a merge, or the full form.
 #[derive(Clone, Copy)]
 pub enum Shape {
@@ -34,38 +42,40 @@ fn is_copy(near: Option<CtuSet>, q: CtuSet) -> bool
     near.is_some_and(|n| sets::same_set(n, q))
 }
 
-// A merge to the left has one bin, so it goes before a merge upwards, which has two where there is a
-// left neighbour.
-fn choose(s: Switches, left: Option<CtuSet>, up: Option<CtuSet>, q: CtuSet) -> Shape
-    ensures { Choice s left up q result }
-{
-    if !geometry::any_on(s) {
-        return Shape::Empty;
+impl Ctu {
+    // A merge to the left has one bin, so it goes before a merge upwards, which has two where there is a
+    // left neighbour.
+    fn choose(self, q: CtuSet) -> Shape
+        ensures { Choice self.switches self.left self.up q result }
+    {
+        if !geometry::any_on(self.switches) {
+            return Shape::Empty;
+        }
+        if is_copy(self.left, q) {
+            return Shape::Left;
+        }
+        if is_copy(self.up, q) {
+            return Shape::Up;
+        }
+        Shape::Full
     }
-    if is_copy(left, q) {
-        return Shape::Left;
-    }
-    if is_copy(up, q) {
-        return Shape::Up;
-    }
-    Shape::Full
-}
 
-// Whether some bins mean the set: it is within the rules, or a merge copies it.
-pub fn has_bins(s: Switches, left: Option<CtuSet>, up: Option<CtuSet>, q: CtuSet) -> bool
-    ensures { Tells (Meant s left up q) result }
-{
-    if sets::is_valid(s, q) {
-        return true;
+    // Whether some bins mean the set: it is within the rules, or a merge copies it.
+    pub fn has_bins(self, q: CtuSet) -> bool
+        ensures { Tells (Meant self.switches self.left self.up q) result }
+    {
+        if sets::is_valid(self.switches, q) {
+            return true;
+        }
+        if !geometry::any_on(self.switches) {
+            return false;
+        }
+        let copied = is_copy(self.left, q);
+        if copied {
+            return true;
+        }
+        is_copy(self.up, q)
     }
-    if !geometry::any_on(s) {
-        return false;
-    }
-    let copied = is_copy(left, q);
-    if copied {
-        return true;
-    }
-    is_copy(up, q)
 }
 
 // ---- the bins, counted or put
@@ -96,50 +106,39 @@ fn full<S: Sink>(to: &mut S, s: Switches, q: CtuSet)
     );
 }
 
-#[tactic(auto, unfolding(crate::specs::Forms::shape_bins, standard::specs::Bins::fixed_length))]
-fn shaped<S: Sink>(
-    to: &mut S,
-    shape: Shape,
-    s: Switches,
-    left: Option<CtuSet>,
-    up: Option<CtuSet>,
-    q: CtuSet,
-)
-    requires { S.has_room to.old (length (shape_bins s left up q shape)) }
-    ensures { S.takes to.old (shape_bins s left up q shape) to.new }
-{
-    match shape {
-        Shape::Empty => {}
-        Shape::Left => to.bits(1, 1),
-        Shape::Up => {
-            not_taken(to, left);
-            to.bits(1, 1);
-        }
-        Shape::Full => {
-            not_taken(to, left);
-            not_taken(to, up);
-            full(to, s, q);
+impl Ctu {
+    #[tactic(auto, unfolding(crate::specs::Forms::shape_bins, standard::specs::Bins::fixed_length))]
+    fn shaped<S: Sink>(self, to: &mut S, shape: Shape, q: CtuSet)
+        requires { S.has_room to.old (length (shape_bins self.switches self.left self.up q shape)) }
+        ensures { S.takes to.old (shape_bins self.switches self.left self.up q shape) to.new }
+    {
+        match shape {
+            Shape::Empty => {}
+            Shape::Left => to.bits(1, 1),
+            Shape::Up => {
+                not_taken(to, self.left);
+                to.bits(1, 1);
+            }
+            Shape::Full => {
+                not_taken(to, self.left);
+                not_taken(to, self.up);
+                full(to, self.switches, q);
+            }
         }
     }
-}
 
-pub fn write_set(
-    s: Switches,
-    left: Option<CtuSet>,
-    up: Option<CtuSet>,
-    q: CtuSet,
-    out: &mut [u8],
-) -> Result<usize, NoRoom>
-    ensures { WritesSet s left up q out.old out.new result }
-{
-    let shape = choose(s, left, up, q);
-    let mut count = Count { bins: 0 };
-    shaped(&mut count, shape, s, left, up, q);
-    let n = count.bins;
-    if (n + 7) / 8 > out.len() {
-        return Err(NoRoom);
+    pub fn write_set(self, q: CtuSet, out: &mut [u8]) -> Result<usize, NoRoom>
+        ensures { WritesSet self.switches self.left self.up q out.old out.new result }
+    {
+        let shape = self.choose(q);
+        let mut count = Count { bins: 0 };
+        self.shaped(&mut count, shape, q);
+        let n = count.bins;
+        if (n + 7) / 8 > out.len() {
+            return Err(NoRoom);
+        }
+        let mut put = Put { out, at: 0 };
+        self.shaped(&mut put, shape, q);
+        Ok(n)
     }
-    let mut put = Put { out, at: 0 };
-    shaped(&mut put, shape, s, left, up, q);
-    Ok(n)
 }

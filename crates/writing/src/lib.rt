@@ -10,8 +10,8 @@ ghost use Rattle.writing.specs.Writing.{FindsBeside, SetWritten, HasWritten};
 
 use geometry::Due;
 use lent::Lent;
-use standard::{CtuSet, Outcome, Refusal, State, Switches};
-use writer::NoRoom;
+use standard::{CtuSet, Outcome, Refusal, State};
+use writer::{Ctu, NoRoom};
 
 // What stands beside the CTU: the neighbour's set, where there is a neighbour. Bytes that are no set within the rules are
 // refused.
@@ -31,20 +31,14 @@ fn beside(due: Due, table: &[u8], near: Option<u32>) -> Result<Option<CtuSet>, R
 
 // The reasons of the set, and its bins where none holds.
 #[tactic(auto, using(crate::proofs::Setting::no_room, crate::proofs::Setting::spelled))]
-fn set_written(
-    s: Switches,
-    left: Option<CtuSet>,
-    up: Option<CtuSet>,
-    q: CtuSet,
-    out: &mut [u8],
-) -> Result<usize, Refusal>
-    ensures { SetWritten s left up q out.old out.new result }
+fn set_written(ctu: Ctu, q: CtuSet, out: &mut [u8]) -> Result<usize, Refusal>
+    ensures { SetWritten ctu.switches ctu.left ctu.up q out.old out.new result }
 {
-    if !writer::has_bins(s, left, up, q) {
+    if !ctu.has_bins(q) {
         return Err(Refusal::NoBins);
     }
     // A match: over `map_err` and over `or` the proof did not close.
-    match writer::write_set(s, left, up, q, out) {
+    match ctu.write_set(q, out) {
         Err(NoRoom) => Err(Refusal::NoRoom),
         Ok(n) => Ok(n),
     }
@@ -58,7 +52,12 @@ fn bins_written(due: Due, q: CtuSet, out: &mut [u8], table: &[u8]) -> Result<usi
 {
     let left = beside(due, table, due.merge_left())?;
     let up = beside(due, table, due.merge_up())?;
-    set_written(due.switches(), left, up, q, out)
+    let ctu = Ctu {
+        switches: due.switches(),
+        left,
+        up,
+    };
+    set_written(ctu, q, out)
 }
 
 // The CTU that is due and how many bins its set has, or the first of the reasons.

@@ -6,17 +6,17 @@ use Rattle.standard.specs.Bins.{packed}
 use Rattle.sink.proofs.Packed.{puts_packed}
 use Rattle.writer.specs.Forms.{shape_bins}
 use Rattle.writer.proofs.Lengths.{shape_length}
-use Rattle.writer.proofs.write_set.Goals as goal
+use Rattle.writer.proofs.Ctu.write_set.Goals as goal
 
 pub shaped-requires : goal.shaped-requires
 shaped-requires c =
     let a = c.args in
-    omega (arith, shape_length a.s a.left a.up a.q c.choose-shape.result)
+    omega (arith, shape_length a.self.switches a.self.left a.self.up a.q c.choose-shape.result)
 
 pub overflow_add-n : goal.overflow_add-n
 overflow_add-n c =
     let a = c.args in
-    omega (arith, shape_length a.s a.left a.up a.q c.choose-shape.result, c.shaped.ensures)
+    omega (arith, shape_length a.self.switches a.self.left a.self.up a.q c.choose-shape.result, c.shaped.ensures)
 
 pub shaped-requires-2 : goal.shaped-requires-2
 shaped-requires-2 c =
@@ -24,15 +24,15 @@ shaped-requires-2 c =
     let n = c.shaped.ensures in
     record {
       fits = omega (arith, n, c.if-n-out.false);
-      small = omega (arith, shape_length a.s a.left a.up a.q c.choose-shape.result);
+      small = omega (arith, shape_length a.self.switches a.self.left a.self.up a.q c.choose-shape.result);
     }
 
 pub returns : goal.returns
 returns c =
     let a = c.args in
     let n = c.shaped.ensures in
-    let put : c.shaped-2.new.to.out.now ≡ packed (shape_bins a.s a.left a.up a.q c.choose-shape.result) a.out.now =
-    puts_packed (record { fits = omega (arith, n, c.if-n-out.false); small = omega (arith, shape_length a.s a.left a.up a.q c.choose-shape.result) }) c.shaped-2.ensures.puts in
+    let put : c.shaped-2.new.to.out.now ≡ packed (shape_bins a.self.switches a.self.left a.self.up a.q c.choose-shape.result) a.out.now =
+    puts_packed (record { fits = omega (arith, n, c.if-n-out.false); small = omega (arith, shape_length a.self.switches a.self.left a.self.up a.q c.choose-shape.result) }) c.shaped-2.ensures.puts in
     let same = c.shaped-2.ensures.same_bytes in
     record {
       shape = c.choose-shape.result;

@@ -368,7 +368,7 @@ struct Runs {
     last: bool,
 }
 
-// A block, the rule by edge, and what lies around the block.
+// A block, the rule by edge, and what lies around the block. Its functions borrow it: copies would take up to 0.9 kB of stack.
 #[derive(Clone, Copy)]
 struct EdgeBlock<'a> {
     rule: ByEdge<'a>,
@@ -379,18 +379,18 @@ struct EdgeBlock<'a> {
 
 impl EdgeBlock<'_> {
     // Whether both neighbours of column x of row y may be compared with it.
-    fn is_open(self, x: usize, y: usize) -> bool
-        requires { Inside self.r x y }
-        ensures { result ≡ open_in self.entry.rule self.entry.around self.entry.r x y }
+    fn is_open(&self, x: usize, y: usize) -> bool
+        requires { Inside self.now.r x y }
+        ensures { result ≡ open_in self.now.rule self.now.around self.now.r x y }
     {
         self.around.is_free(self.rule.a, self.r, x, y)
             && self.around.is_free(self.rule.b, self.r, x, y)
     }
 
     // All the columns between the first and the last have their neighbours across in the block.
-    fn runs(self, y: usize) -> Runs
-        requires { Inside self.r self.r.x0 y }
-        ensures { Parted (λ x. open_in self.entry.rule self.entry.around self.entry.r x y) self.entry.r.x0 self.entry.r.x1 result }
+    fn runs(&self, y: usize) -> Runs
+        requires { Inside self.now.r self.now.r.x0 y }
+        ensures { Parted (λ x. open_in self.now.rule self.now.around self.now.r x y) self.now.r.x0 self.now.r.x1 result }
     {
         let r = self.r;
         let z = r.x1 - 1;
@@ -410,10 +410,10 @@ impl EdgeBlock<'_> {
     }
 
     // Samples whose neighbours may all be compared with them, by edge, or samples that stay.
-    fn part(self, whole: bool, p: Rectangle, out: &mut [u16])
-        requires lent { LentFrom self.rule.from p out.old }
-        requires reach { whole ≡ true → Reaching self.rule p }
-        ensures { Becomes self.entry.rule.from p (edged_if whole self.entry.rule) out.old out.new }
+    fn part(&self, whole: bool, p: Rectangle, out: &mut [u16])
+        requires lent { LentFrom self.now.rule.from p out.old }
+        requires reach { whole ≡ true → Reaching self.now.rule p }
+        ensures { Becomes self.now.rule.from p (edged_if whole self.now.rule) out.old out.new }
     {
         if whole {
             rows(self.rule, p, out);
@@ -423,10 +423,10 @@ impl EdgeBlock<'_> {
     }
 
     // Rows y0 up to and without y1, which are parted alike.
-    fn band(self, y0: usize, y1: usize, out: &mut [u16])
-        requires filtered { AsLarge self.rule.from out.old }
-        requires alike { (self.r.y0 ≤ y0) × (y0 ≤ y1) × (y1 ≤ self.r.y1) × Alike self.around self.r (step_to self.rule.a) (step_to self.rule.b) y0 y1 }
-        ensures { Becomes self.entry.rule.from (block self.entry.r.x0 self.entry.r.x1 y0 y1) (edged_in self.entry.rule self.entry.around self.entry.r) out.old out.new }
+    fn band(&self, y0: usize, y1: usize, out: &mut [u16])
+        requires filtered { AsLarge self.now.rule.from out.old }
+        requires alike { (self.now.r.y0 ≤ y0) × (y0 ≤ y1) × (y1 ≤ self.now.r.y1) × Alike self.now.around self.now.r (step_to self.now.rule.a) (step_to self.now.rule.b) y0 y1 }
+        ensures { Becomes self.now.rule.from (block self.now.r.x0 self.now.r.x1 y0 y1) (edged_in self.now.rule self.now.around self.now.r) out.old out.new }
     {
         if y0 < y1 {
             let k = self.runs(y0);
@@ -455,9 +455,9 @@ impl EdgeBlock<'_> {
     }
 
     // The first row, the rows between and the last.
-    fn bands(self, out: &mut [u16])
-        requires { AsLarge self.rule.from out.old }
-        ensures { Becomes self.entry.rule.from self.entry.r (edged_in self.entry.rule self.entry.around self.entry.r) out.old out.new }
+    fn bands(&self, out: &mut [u16])
+        requires { AsLarge self.now.rule.from out.old }
+        ensures { Becomes self.now.rule.from self.now.r (edged_in self.now.rule self.now.around self.now.r) out.old out.new }
     {
         let t = self.r.y0 + 1;
         let u = t.max(self.r.y1 - 1);
@@ -467,9 +467,9 @@ impl EdgeBlock<'_> {
     }
 
     // Where nothing is barred, every row in one piece.
-    fn filter(self, out: &mut [u16])
-        requires { AsLarge self.rule.from out.old }
-        ensures { Becomes self.entry.rule.from self.entry.r (edged_in self.entry.rule self.entry.around self.entry.r) out.old out.new }
+    fn filter(&self, out: &mut [u16])
+        requires { AsLarge self.now.rule.from out.old }
+        ensures { Becomes self.now.rule.from self.now.r (edged_in self.now.rule self.now.around self.now.r) out.old out.new }
     {
         if self.around.all_open() {
             rows(self.rule, self.r, out);

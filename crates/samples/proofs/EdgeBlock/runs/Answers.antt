@@ -8,7 +8,7 @@ use Rattle.samples.proofs.EdgeBlock.runs.Goals as goal
 
 pub returns : goal.returns
 returns c =
-    let s = c.args.self in
+    let s = c.args.self.now in
     let y = c.args.y in
     parted (λ x. open_in s.rule s.around s.r x y) s.r.x0 s.r.x1 c.requires.0.1
     (λ u v. open_columns s.around s.r (step_to s.rule.a) (step_to s.rule.b) (by_one s.rule.a) (by_one s.rule.b) u v y)

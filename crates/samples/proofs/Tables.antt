@@ -9,7 +9,7 @@ use Rattle.standard.proofs.Tables.{negated, steps_negate}
 use Rattle.samples.specs.declared.Step.{Step}
 use Rattle.samples.specs.declared.Way.{Way}
 use Rattle.samples.specs.declared.Way.TheVariants.{Back, Stay, On}
-use Rattle.samples.specs.Steps.{by, step_to, entry_of, Steps, ByOne}
+use Rattle.samples.specs.Steps.{by, step_to, entry_of, ByOne}
 
 abbrev step : Way → Way → Step
 step a b = record { dx = a; dy = b }

@@ -126,6 +126,7 @@ fn offset(b: u8) -> i8 {
     (b as i32 - 128) as i8
 }
 
+// The one place where the number of a type becomes the type.
 fn set_of(record: &[u8; RECORD]) -> Offsets {
     let place = record[9];
     let offsets = Four {

@@ -78,6 +78,7 @@ enum Answer<'a> {
 
 // ---- what a record says
 
+// Not one with that of `replay`: there the fields lie otherwise, and its sizes have four bytes.
 fn picture_of(record: &[u8; RECORD]) -> Picture {
     Picture {
         width: pair(record[62], record[63]),

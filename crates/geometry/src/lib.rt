@@ -72,6 +72,7 @@ pub fn no_such_component(p: Picture, component: u8) -> bool
 
 // ---- bit depth
 
+// A component is a number here and everywhere: a call takes any, and refuses those that name none.
 #[tactic(auto, unfolding(standard::specs::Picture::depth_of))]
 pub fn depth_of(p: Picture, component: u8) -> u32
     ensures { result ≡ depth_of p component }

@@ -8,7 +8,8 @@ ghost use Rattle.marks.specs.Marks.{Outside, SomeOutside, LeadingInside};
 
 use geometry::Block;
 
-// The mark of a CTB.
+// The mark of a CTB. That marks fit the picture is asked, here and in the calls: a type of both would hold the picture once more,
+// and a clause would have to say that it is the block's. It is so with planes and the table.
 pub fn mark_of(block: Block, marks: &[u8]) -> u8
     requires { MarksFit block.of.picture marks.now }
     ensures { result ≡ mark_of block.of.picture marks.now block.component block.ctb }

@@ -95,7 +95,7 @@ fn or_rows(a: &[u16], b: &[u16]) -> u16
     v
 }
 
-// The row below y, or y itself where it is the rectangle's last.
+// The row below y, or y itself where it is the rectangle's last: as a least of two it would say less.
 fn row_below(r: Rectangle, y: usize) -> usize
     requires { y < r.y1 }
     ensures { result ≡ row_below r y }

@@ -60,7 +60,8 @@ pub fn sum_after<I: Iterator<Item = u32>>(sum: u32, numbers: I) -> u32
 // ---- bytes that are read
 
 // Reads until buf is full or the input ends, and answers how many bytes it put at the start of buf. A read that fails leaves at the
-// start of buf what was read before it; an error is the reader's own.
+// start of buf what was read before it; an error is the reader's own. A reader gives some bytes each turn, so nothing counts the turns
+// but what is done.
 pub fn read_full<R: Read>(input: &mut R, buf: &mut [u8]) -> io::Result<usize>
     ensures kept { length buf.new ≡ length buf.old }
     ensures fits { IfOk result (λ n. n ≤ length buf.new) }

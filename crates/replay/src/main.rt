@@ -343,6 +343,7 @@ impl Run<'_> {
         self.table.fill(&mut draws);
     }
 
+    // By the buffer's number: the eight are of two types, and nothing else chooses among them.
     fn poke(&mut self, head: Head) {
         let at = length_of(head.b, head.c);
         match head.a {

@@ -183,7 +183,8 @@ fn band_sample(m: Moves, bands: Bands, s: u16) -> u16
 // ---- rows
 //
 // They go by an index. Over a zip of out and the parts the code would be the same, but of what is written
-// through one a proof knows nothing afterwards.
+// through one a proof knows nothing afterwards. One function over a closure is no plainer than two loops of
+// one line each.
 
 // Samples whose neighbours are those of the parts a and b.
 pub fn edge_row(m: Moves, cur: &[u16], a: &[u16], b: &[u16], out: &mut [u16])

@@ -63,7 +63,7 @@ fn entry(steps: [[Step; 2]; 4], class: usize, k: usize) -> Step
     steps[class][k]
 }
 
-// The two steps of a class.
+// The two steps of a class, by a match: document 01 names this form, and that of the table (docs/DECISIONS.md).
 fn steps_of(class: u8) -> (Step, Step)
     requires { class < 4 }
     ensures { StepsOf class result }
@@ -377,6 +377,7 @@ struct EdgeBlock<'a> {
     ghost ready: { BlockReady rule around r },
 }
 
+// Each function asks that the filtered plane is as large: it is lent to each in turn, and is no part of the block.
 impl EdgeBlock<'_> {
     // Whether both neighbours of column x of row y may be compared with it.
     fn is_open(&self, x: usize, y: usize) -> bool

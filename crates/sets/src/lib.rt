@@ -12,7 +12,7 @@ ghost use Rattle.sets.specs.Entries.{list_of, offsets_in, says, set_of, Coded, C
 use standard::{CtuSet, ENTRY_BYTES, Four, Offsets, SET_BYTES, Switches};
 
 // One component in an entry of the table: its type, its band position or class, and its offsets, each
-// plus 128.
+// plus 128. The type is a number, since a table may hold any: `is_code` finds the others out.
 #[derive(Clone, Copy, PartialEq, Eq)]
 struct Six {
     kind: u8,
@@ -262,6 +262,7 @@ fn put_bytes(bytes: &mut [u8], at: usize, q: CtuSet)
     put_six(bytes, at + 12, b.cr);
 }
 
+// That an entry lies in the table is asked, here and where one is read: a type of table and number would be made anew for each entry.
 #[tactic(auto, using(crate::proofs::Lists::put_entered))]
 pub fn put_set(table: &mut [u8], k: usize, q: CtuSet)
     requires { entry_size * k + entry_size ≤ length table.old }

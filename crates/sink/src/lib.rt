@@ -13,7 +13,7 @@ use standard::{Four, Offsets};
 
 // What takes bins, one after another.
 pub trait Sink {
-    // So many bins more can be taken.
+    // So many bins more can be taken: asked of other bins by each function below, and so no fact of the sink alone.
     ghost has_room: { Self → ℕ → Type 0 };
 
     // What a sink has become that took bins.

@@ -65,7 +65,8 @@ pub struct Four<T> {
     pub o4: T,
 }
 
-// One component's set. Offsets are as coded, before they are scaled to the depth.
+// One component's set. Offsets are as coded, before they are scaled to the depth. A position and a class are any number, so that a
+// set outside the rules can be handed in, and is refused.
 #[derive(Clone, Copy, PartialEq, Eq)]
 pub enum Offsets {
     Off,

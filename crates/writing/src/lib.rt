@@ -78,6 +78,7 @@ fn write_answer(
     Ok((due, n))
 }
 
+// What is stored at the end, and that the next CTU is due, is two calls, as in `read`: one function of both would be no shorter.
 #[tactic(auto, using(lent::proofs::Ready::due_fits))]
 pub fn write(state: State, q: CtuSet, out: &mut [u8], table: &mut [u8]) -> Outcome<usize>
     ensures { WriteEnsures state q out.old table.old result out.new table.new }

@@ -3,4 +3,5 @@ pub mod Crossing
 pub mod Components
 pub mod Standing
 pub mod Pinned
+pub mod Verdicts
 pub mod Ours

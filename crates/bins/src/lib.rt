@@ -63,7 +63,7 @@ fn forty(bytes: &[u8], q: usize) -> u64
         + byte_at(bytes, q + 4)
 }
 
-// An offset of magnitude v.
+// An offset of magnitude v: a sum of two things, and so no `From`.
 fn offset(v: u32, negative: bool) -> i8
     requires { v < 128 }
     ensures { result ≡ cond negative (neg_ℤ (pos v)) (pos v) }

@@ -122,6 +122,7 @@ fn fill(record: &[u8; RECORD], top: u16, plane: &mut [u16]) {
 
 // ---- what a record says
 
+// An offset plus 128, as in the table.
 fn offset(b: u8) -> i8 {
     (b as i32 - 128) as i8
 }

@@ -127,7 +127,7 @@ fn ctu_of(record: &[u8; RECORD]) -> Result<Ctu, Refused> {
 fn set_read(ctu: Ctu, bytes: &[u8], count: usize) -> Result<CtuSet, Refused>
     requires { count < 65536 }
 {
-    if (count + 7) / 8 > bytes.len() {
+    if count.div_ceil(8) > bytes.len() {
         return Err(Refused::Count);
     }
     match bins::read_form(

@@ -89,6 +89,7 @@ fn put_ctb(block: Block, samples: &[u16], plane: &mut [u16])
     planes::put_block(samples, plane, place);
 }
 
+// Planes one by one, since C lends them so.
 pub fn deliver(
     state: State,
     component: u8,

@@ -75,7 +75,7 @@ fn not_ready(block: Block, next: u32, set: Offsets, marks: &[u8]) -> bool
 
 // ---- set and samples
 
-// By number, as a call names a component: what the C interface hands in is any number.
+// By number, as a call names a component, and as `depth_in` in `geometry` is of another type: definitions name both by field.
 fn component_of(q: CtuSet, component: u8) -> Offsets
     ensures { result ≡ component_of q component }
 {
@@ -175,7 +175,8 @@ fn filter_answer(
 
 // ---- the call
 
-// Which of the blocks around a CTB its samples may be compared with, by the picture's parameters.
+// Which of the blocks around a CTB its samples may be compared with, by the picture's parameters: today by its border alone, whatever
+// the table holds.
 fn answers(block: Block, table: &[u8]) -> Around
     requires { TableFits block.of.picture table.now }
     ensures { Agrees (context_of block.of.picture (parameters_in table.now) block.component) (rectangle block.of.picture block.component block.ctb) result }
@@ -192,6 +193,7 @@ fn filter_ctb(block: Block, set: Offsets, table: &[u8], plane: &[u16], out: &mut
     samples::filter_block(block.layout(), set, o, block.rectangle(), plane, out);
 }
 
+// Planes one by one, since C lends them so.
 pub fn filter(
     state: State,
     component: u8,

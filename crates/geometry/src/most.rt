@@ -20,6 +20,7 @@ fn largest_magnitude(depth: u32) -> u32
     (1u32 << coded_depth(depth).saturating_sub(5)) - 1
 }
 
+// One of three fields by number, as `component_of` in `filtering` is of another type: definitions name both by field.
 fn depth_in(s: Switches, component: u8) -> u32
     ensures { result ≡ depth_in s component }
 {

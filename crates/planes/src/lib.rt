@@ -103,7 +103,8 @@ fn row_below(r: Rectangle, y: usize) -> usize
     if y + 1 < r.y1 { y + 1 } else { y }
 }
 
-// Whether a sample is above the top. The scan stops at the first that is.
+// Whether a sample is above the top. Only where the samples together are, is one looked for: they are above it by a bit that one of them
+// has, and no sample need be.
 pub fn sample_above(samples: &[u16], top: u16) -> bool
     ensures { Tells (SampleAbove samples.now top) result }
 {

@@ -16,7 +16,8 @@ use standard::{CtuSet, Outcome, Refusal, State, Switches};
 
 // ---- the reasons to refuse
 
-// Whether 8 times the bytes are fewer than the bins, by division: the product might wrap.
+// Whether 8 times the bytes are fewer than the bins, by division: the product might wrap. The count is what a caller declares, and so
+// stands beside the bytes.
 fn count_too_large(bytes: &[u8], count: usize) -> bool
     ensures { Tells (CountExceedsTheBytes bytes.now count) result }
 {

@@ -56,7 +56,7 @@ pub fn moves_of(o: Four<i16>, depth: u32) -> Moves
 // ---- a sample and an offset
 
 // A number of 16 bits, less half of their range: in the same order, and signed, as vectors compare
-// and add.
+// and add. As a `From` it would not say what is taken off.
 fn lowered(n: u16) -> i16
     ensures { result ≡ low_of n }
 {

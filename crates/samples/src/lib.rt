@@ -1,5 +1,5 @@
 // The filter of one block (H.265 8.7.3): the deblocked plane is read, the filtered plane is written.
-// One match on type and class selects the rule of a block, and below it the filter by edge goes by the
+// A match on type and one on class select the rule of a block, and below it the filter by edge goes by the
 // two steps alone; what may not be compared lies outside the loops over samples. Neighbours are
 // samples of the same deblocked plane.
 #![tactic(auto)]

@@ -1,5 +1,5 @@
-// A CTU's set compared, judged by the rules, stored in the table and read back. All of it goes over a
-// component's six bytes of the table: offsets are signed only where they become bytes, or bytes them.
+// A CTU's set compared, judged by the rules, stored in the table and read back. Judging and what follows
+// go over a component's six bytes of the table: offsets are signed only where they become bytes, or bytes them.
 #![tactic(auto)]
 
 ghost use Rattle.std.specs.Prelude.{◌≡◌, ◌+◌, ◌*◌, ◌≤◌, nat_abs, length, take, drop};
@@ -30,6 +30,7 @@ struct SetBytes {
 
 // ---- an offset, a component and a set, as bytes
 
+// Sums, as the definitions have them: as a `From` they would not say that 128 is added.
 fn byte_of(o: i8) -> u8
     ensures { result ≡ offset_byte o }
 {

@@ -87,6 +87,7 @@ fn held(a: &[u32; NUMBERS]) -> Option<State>
     })
 }
 
+// Both types are of other crates, so this is no `From`.
 fn numbers_of(s: State) -> [u32; NUMBERS]
     ensures { result ≡ numbers_of s }
 {

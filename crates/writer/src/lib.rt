@@ -64,17 +64,8 @@ impl Ctu {
     pub fn has_bins(self, q: CtuSet) -> bool
         ensures { Tells (Meant self.switches self.left self.up q) result }
     {
-        if sets::is_valid(self.switches, q) {
-            return true;
-        }
-        if !geometry::any_on(self.switches) {
-            return false;
-        }
-        let copied = is_copy(self.left, q);
-        if copied {
-            return true;
-        }
-        is_copy(self.up, q)
+        sets::is_valid(self.switches, q)
+            || geometry::any_on(self.switches) && (is_copy(self.left, q) || is_copy(self.up, q))
     }
 }
 
@@ -134,7 +125,7 @@ impl Ctu {
         let mut count = Count { bins: 0 };
         self.shaped(&mut count, shape, q);
         let n = count.bins;
-        if (n + 7) / 8 > out.len() {
+        if n.div_ceil(8) > out.len() {
             return Err(NoRoom);
         }
         let mut put = Put { out, at: 0 };

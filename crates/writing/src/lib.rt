@@ -20,13 +20,11 @@ fn beside(due: Due, table: &[u8], near: Option<u32>) -> Result<Option<CtuSet>, R
     requires { InTable table.now near }
     ensures { FindsBeside (state_of due) table.now near result }
 {
-    match near {
-        None => Ok(None),
-        Some(k) => match sets::get_set(due.switches(), table, k as usize) {
-            None => Err(Refusal::Stored),
-            Some(set) => Ok(Some(set)),
-        },
-    }
+    let Some(k) = near else {
+        return Ok(None);
+    };
+    let set = sets::get_set(due.switches(), table, k as usize).ok_or(Refusal::Stored)?;
+    Ok(Some(set))
 }
 
 // The reasons of the set, and its bins where none holds.

@@ -13,17 +13,12 @@ shaped-requires c =
     let a = c.args in
     omega (arith, shape_length a.self.switches a.self.left a.self.up a.q c.choose-shape.result)
 
-pub overflow_add-n : goal.overflow_add-n
-overflow_add-n c =
-    let a = c.args in
-    omega (arith, shape_length a.self.switches a.self.left a.self.up a.q c.choose-shape.result, c.shaped.ensures)
-
 pub shaped-requires-2 : goal.shaped-requires-2
 shaped-requires-2 c =
     let a = c.args in
     let n = c.shaped.ensures in
     record {
-      fits = omega (arith, n, c.if-n-out.false);
+      fits = omega (arith, n, c.div_ceil.ensures, c.if-div_ceil-out.false);
       small = omega (arith, shape_length a.self.switches a.self.left a.self.up a.q c.choose-shape.result);
     }
 
@@ -32,10 +27,10 @@ returns c =
     let a = c.args in
     let n = c.shaped.ensures in
     let put : c.shaped-2.new.to.out.now ≡ packed (shape_bins a.self.switches a.self.left a.self.up a.q c.choose-shape.result) a.out.now =
-    puts_packed (record { fits = omega (arith, n, c.if-n-out.false); small = omega (arith, shape_length a.self.switches a.self.left a.self.up a.q c.choose-shape.result) }) c.shaped-2.ensures.puts in
+    puts_packed (record { fits = omega (arith, n, c.div_ceil.ensures, c.if-div_ceil-out.false); small = omega (arith, shape_length a.self.switches a.self.left a.self.up a.q c.choose-shape.result) }) c.shaped-2.ensures.puts in
     let same = c.shaped-2.ensures.same_bytes in
     record {
       shape = c.choose-shape.result;
       choice = c.choose-shape.ensures;
-      writes = (omega (arith, n, c.if-n-out.false), omega (arith, n), search rules);
+      writes = (omega (arith, n, c.div_ceil.ensures, c.if-div_ceil-out.false), omega (arith, n), search rules);
     }

@@ -64,8 +64,8 @@ fn deliver_answer(
     ensures of_call { IfOk result (Names state component ctb) }
 {
     let lent = Lent {
-        deblocked: Some(planes),
-        marks: Some(marks),
+        deblocked: Some(planes.lengths()),
+        marks: Some(marks.len()),
         ..Lent::default()
     };
     let block = lent::block_answer(state, lent, component, ctb)?;

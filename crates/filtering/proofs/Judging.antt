@@ -3,6 +3,7 @@ use mathlib.Core.List.{List, ◌++◌}
 use mathlib.Core.Path.{◌≡◌, sym, subst}
 use denote.Ref.{Bor}
 use Prim.Native.Nat.{ℕ}
+use lib.ListN.{length}
 use Rattle.std.specs.Prelude.{Result, Ok, Err, Some, IsErrAnd}
 use Rattle.standard.specs.declared.State.{State}
 use Rattle.standard.specs.declared.Refusal.{Refusal}
@@ -12,15 +13,16 @@ use Rattle.standard.specs.Ensures.{Judged}
 use Rattle.standard.proofs.Parts.{first_front, first_back, clear_both}
 use Rattle.geometry.specs.declared.block.Block.{Block}
 use Rattle.lent.specs.declared.Planes.{Planes}
-use Rattle.lent.specs.Lengths.{lists_of, LentRight, Names}
-use Rattle.lent.proofs.Lengths.{begun}
+use Rattle.lent.specs.declared.PlaneLengths.{PlaneLengths}
+use Rattle.lent.specs.Lengths.{lists_of, lengths_of, LentRight, Names}
+use Rattle.lent.proofs.Lengths.{planes_fit, planes_right, begun}
 use Rattle.lent.specs.States.{state_at}
 
 passed : {T : Type 0} (rs : List Reason) (r : Refusal) (a : Result T Refusal) → IsErrAnd a (λ e. e ≡ r) → First rs (number_of r) → Judged rs a
 passed rs r (Ok x) e f = absurd e
 passed rs r (Err t) e f = subst (λ (r : Refusal). First rs (number_of r)) (sym e) f
 
-module _ (s : State) (i k : ℕ) (l o : Planes) (marks table : Bor (List ℕ)) where
+module _ (s : State) (i k : ℕ) (l o : Planes) (marks table : Bor (List ℕ)) {l_long o_long : PlaneLengths} (l_is : l_long ≡ lengths_of (lists_of l)) (o_is : o_long ≡ lengths_of (lists_of o)) where
   abbrev Fit : Type 0
   Fit = PlanesFit s.picture (lists_of l) × PlanesFit s.picture (lists_of o) × MarksFit s.picture marks.now × TableFits s.picture table.now
 
@@ -38,10 +40,13 @@ module _ (s : State) (i k : ℕ) (l o : Planes) (marks table : Bor (List ℕ)) w
 
   -- by what the call is lent
   abbrev Begun : {T : Type 0} → Result T Refusal → Type 0
-  Begun a = Judged (call_reasons s (LentRight s.picture (record { deblocked = Some l; filtered = Some o; marks = Some marks; table = Some table })) ++ block_reasons s i k) a
+  Begun a = Judged (call_reasons s (LentRight s.picture (record { deblocked = Some l_long; filtered = Some o_long; marks = Some (length marks.now); table = Some (length table.now) })) ++ block_reasons s i k) a
 
   begins : {T : Type 0} (a : Result T Refusal) → Begun a → Judged named a
-  begins a = begun s (λ r. (r.deblocked, r.filtered, r.marks, r.table)) (λ f. record { deblocked = f.0; filtered = f.1; marks = f.2; table = f.3 }) (block_reasons s i k) a
+  begins a =
+      begun s (λ r. (planes_fit s.picture (lists_of l) l_is r.deblocked, planes_fit s.picture (lists_of o) o_is r.filtered, r.marks, r.table))
+      (λ f. record { deblocked = planes_right s.picture (lists_of l) l_is f.0; filtered = planes_right s.picture (lists_of o) o_is f.1; marks = f.2; table = f.3 })
+      (block_reasons s i k) a
 
   module _ {T : Type 0} (r : Refusal) (a : Result T Refusal) (e : IsErrAnd a (λ t. t ≡ r)) where
     pub first_passed : Begun {T = Unit {0}} (Err r) → Judged all a

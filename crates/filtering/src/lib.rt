@@ -162,10 +162,10 @@ fn filter_answer(
     ensures of_call { IfOk result (λ t. Names state component ctb t.0 × Chosen component ctb table.now t.1) }
 {
     let lent = Lent {
-        deblocked: Some(deblocked),
-        filtered: Some(filtered),
-        marks: Some(marks),
-        table: Some(table),
+        deblocked: Some(deblocked.lengths()),
+        filtered: Some(filtered.lengths()),
+        marks: Some(marks.len()),
+        table: Some(table.len()),
     };
     let block = lent::block_answer(state, lent, component, ctb)?;
     marks_answer(block, state.next, marks, table)?;

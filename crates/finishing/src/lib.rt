@@ -66,8 +66,8 @@ fn count_answer(
     ensures rows { IfOk result (λ r. FinishedRows state component marks.now r.1) }
 {
     let lent = Lent {
-        filtered: Some(filtered),
-        marks: Some(marks),
+        filtered: Some(filtered.lengths()),
+        marks: Some(marks.len()),
         ..Lent::default()
     };
     let of = lent::call_answer(state, lent)?;

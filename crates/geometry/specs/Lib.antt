@@ -1,3 +1,4 @@
 pub mod Geometry
 pub mod OneProof
+pub mod Found
 pub mod Dues

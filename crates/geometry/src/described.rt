@@ -1,6 +1,6 @@
 // A picture whose description keeps the rules, and what it says.
 
-ghost use Rattle.std.specs.Prelude.{◌≡◌, ◌⊎◌, ◌*◌, ◌≤◌, MatchOption};
+ghost use Rattle.std.specs.Prelude.{◌≡◌, ◌*◌, ◌≤◌};
 ghost use Rattle.standard.specs.Picture.{Rules, components, plane_width, plane_height, samples_of};
 ghost use Rattle.standard.specs.Picture.{ctb_width, ctb_height, columns, rows, ctu_count, rectangle, grown, merge_left, merge_up};
 ghost use Rattle.standard.specs.Samples.{layout_of};
@@ -22,9 +22,11 @@ pub struct Described {
 }
 
 impl Described {
+    ghost use Rattle.geometry.specs.Found.{FindsPicture, FindsBlock};
+
     // None exactly where the description breaks a rule.
     pub fn of(p: Picture) -> Option<Described>
-        ensures { MatchOption result (¬ Rules p) (λ d. d.picture ≡ p) }
+        ensures { FindsPicture p result }
     {
         if is_described(p) {
             Some(Described { picture: p })
@@ -169,8 +171,7 @@ impl Described {
 
     // None exactly where there is no such component, or no such CTB.
     pub fn block(self, component: u8, ctb: u32) -> Option<Block>
-        ensures { MatchOption result ((components self.picture ≤ component) ⊎ (ctu_count self.picture ≤ ctb))
-            (λ b. (b.of ≡ self) × (b.component ≡ component) × (b.ctb ≡ ctb)) }
+        ensures { FindsBlock self component ctb result }
     {
         if self.no_such_component(component) || self.ctu_count() <= (ctb as usize) {
             None

@@ -1,8 +1,10 @@
--- The verdict on the first reasons carried over to what one call is lent.
+-- The lengths that a call is lent, said as document 01's reasons say them, and the verdict on the first reasons carried over to those words.
+use mathlib.Core.Path.{◌≡◌, sym, subst}
 use mathlib.Core.List.{List, ◌++◌}
 use mathlib.Core.Logic.Dec
 use Prim.Native.Nat.{ℕ}
-use Rattle.std.specs.Prelude.{Result}
+use Rattle.std.specs.Prelude.{Result, Some}
+use Rattle.standard.specs.declared.Picture.{Picture}
 use Rattle.standard.specs.declared.State.{State}
 use Rattle.standard.specs.declared.Refusal.{Refusal}
 use Rattle.standard.specs.Refusals.{Reason}
@@ -11,6 +13,15 @@ use Rattle.standard.specs.Ensures.{Judged}
 use Rattle.standard.proofs.Parts.{same_judged, same_both, same_itself}
 use Rattle.standard.proofs.Called.{call_same}
 use Rattle.standard.proofs.Refusing.{planes_fit?, marks_fit?}
+use Rattle.lent.specs.declared.PlaneLengths.{PlaneLengths}
+use Rattle.lent.specs.Lengths.{lengths_of, PlanesRight}
+
+module _ (p : Picture) (l : Planes) {n : PlaneLengths} (is : n ≡ lengths_of l) where
+  pub planes_fit : PlanesRight p (Some n) → PlanesFit p l
+  planes_fit r = let own = subst (λ (m : PlaneLengths). PlanesRight p (Some m)) is r in record { y = own.0; cb = own.1; cr = own.2 }
+
+  pub planes_right : PlanesFit p l → PlanesRight p (Some n)
+  planes_right f = subst (λ (m : PlaneLengths). PlanesRight p (Some m)) (sym is) (f.y, f.cb, f.cr)
 
 -- a call that is lent three planes and the marks: deliver the deblocked ones, finished rows the filtered ones
 abbrev pub PlanesAndMarks : State → Planes → List ℕ → Type 0

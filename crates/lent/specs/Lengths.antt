@@ -1,27 +1,31 @@
 -- What a call is lent has its right length; of what it is not lent nothing is asked.
-use Rattle.std.specs.Prelude.{◌≡◌, List, ℕ, ◌*◌, length, Option, Some, None}
-use denote.Ref.{Bor}
+use Rattle.std.specs.Prelude.{◌≡◌, ℕ, ◌*◌, length, Option, Some, None}
 use Rattle.standard.specs.declared.Picture.{Picture}
 use Rattle.standard.specs.declared.State.{State}
-use Rattle.standard.specs.Picture.{ctu_count}
+use Rattle.standard.specs.Picture.{samples_of, ctu_count}
 use Rattle.standard.specs.Table.{entry_size}
 use Rattle.standard.specs.Reasons as reasons
-use Rattle.standard.specs.Reasons.{PlanesFit, mark_count}
+use Rattle.standard.specs.Reasons.{mark_count}
 use Rattle.geometry.specs.declared.block.Block.{Block}
 use Rattle.lent.specs.declared.Lent.{Lent}
 use Rattle.lent.specs.declared.Planes.{Planes}
+use Rattle.lent.specs.declared.PlaneLengths.{PlaneLengths}
 
 -- the three planes as lists
 abbrev pub lists_of : Planes → reasons.Planes
 lists_of l = record { y = l.y.now; cb = l.cb.now; cr = l.cr.now }
 
-abbrev pub PlanesRight : Picture → Option Planes → Type 0
-PlanesRight p None = Unit {0}
-PlanesRight p (Some l) = PlanesFit p (lists_of l)
+-- and how long they are
+abbrev pub lengths_of : reasons.Planes → PlaneLengths
+lengths_of l = record { y = length l.y; cb = length l.cb; cr = length l.cr }
 
-abbrev pub BytesRight : ℕ → Option (Bor (List ℕ)) → Type 0
+abbrev pub PlanesRight : Picture → Option PlaneLengths → Type 0
+PlanesRight p None = Unit {0}
+PlanesRight p (Some l) = (l.y ≡ samples_of p 0) × (l.cb ≡ samples_of p 1) × (l.cr ≡ samples_of p 2)
+
+abbrev pub BytesRight : ℕ → Option ℕ → Type 0
 BytesRight n None = Unit {0}
-BytesRight n (Some b) = length b.now ≡ n
+BytesRight n (Some m) = m ≡ n
 
 pub record LentRight (p : Picture) (l : Lent) : Type 0 where
   pub deblocked : PlanesRight p l.deblocked

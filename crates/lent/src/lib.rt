@@ -3,10 +3,10 @@
 
 ghost use Rattle.std.specs.Prelude.{◌≡◌, ◌<◌, ◌≤◌, ◌++◌, IfOk};
 ghost use Rattle.standard.specs.Refusals.{Tells};
-ghost use Rattle.standard.specs.Reasons.{PlanesFit, plane_of, description_reasons, lent_reasons, call_reasons, due_reasons, block_reasons};
+ghost use Rattle.standard.specs.Reasons.{plane_of, description_reasons, lent_reasons, call_reasons, due_reasons, block_reasons};
 ghost use Rattle.standard.specs.Ensures.{Judged};
 ghost use Rattle.geometry.specs.Dues.{state_of};
-ghost use Rattle.lent.specs.Lengths.{lists_of, PlanesRight, BytesRight, LentRight, Names};
+ghost use Rattle.lent.specs.Lengths.{lists_of, lengths_of, PlanesRight, BytesRight, LentRight, Names};
 
 use geometry::{Block, Described, Due};
 use standard::{Refusal, State};
@@ -33,45 +33,58 @@ impl<'a> Planes<'a> {
         }
     }
 
-    fn fit(self, of: Described) -> bool
-        ensures { Tells (PlanesFit of.picture (lists_of self.entry)) result }
+    pub fn lengths(self) -> PlaneLengths
+        ensures { result ≡ lengths_of (lists_of self.entry) }
     {
-        self.y.len() == of.sample_count(0)
-            && self.cb.len() == of.sample_count(1)
-            && self.cr.len() == of.sample_count(2)
+        PlaneLengths {
+            y: self.y.len(),
+            cb: self.cb.len(),
+            cr: self.cr.len(),
+        }
     }
 }
 
-// None where the call is not lent it.
-#[derive(Clone, Copy, Default)]
-pub struct Lent<'a> {
-    pub deblocked: Option<Planes<'a>>,
-    pub filtered: Option<Planes<'a>>,
-    pub marks: Option<&'a [u8]>,
-    pub table: Option<&'a [u8]>,
+// How long three planes are.
+#[derive(Clone, Copy)]
+pub struct PlaneLengths {
+    pub y: usize,
+    pub cb: usize,
+    pub cr: usize,
 }
 
-fn planes_right(of: Described, planes: Option<Planes>) -> bool
-    ensures { Tells (PlanesRight of.picture planes.entry) result }
+// How long that is which a call is lent; None where it is not lent it.
+#[derive(Clone, Copy, Default)]
+pub struct Lent {
+    pub deblocked: Option<PlaneLengths>,
+    pub filtered: Option<PlaneLengths>,
+    pub marks: Option<usize>,
+    pub table: Option<usize>,
+}
+
+fn planes_right(of: Described, planes: Option<PlaneLengths>) -> bool
+    ensures { Tells (PlanesRight of.picture planes) result }
 {
     match planes {
         None => true,
-        Some(p) => p.fit(of),
+        Some(l) => {
+            l.y == of.sample_count(0) && l.cb == of.sample_count(1) && l.cr == of.sample_count(2)
+        }
     }
 }
 
-fn bytes_right(n: usize, bytes: Option<&[u8]>) -> bool
-    ensures { Tells (BytesRight n bytes.entry) result }
+fn bytes_right(n: usize, bytes: Option<usize>) -> bool
+    ensures { Tells (BytesRight n bytes) result }
 {
     match bytes {
         None => true,
-        Some(b) => b.len() == n,
+        Some(m) => m == n,
     }
 }
 
-impl Lent<'_> {
+impl Lent {
+    #[inline(always)]
     fn right(self, of: Described) -> bool
-        ensures { Tells (LentRight of.picture self.entry) result }
+        ensures { Tells (LentRight of.picture self) result }
     {
         planes_right(of, self.deblocked)
             && planes_right(of, self.filtered)
@@ -81,6 +94,9 @@ impl Lent<'_> {
 }
 
 // ---- the reasons with which calls begin, in document 01's order
+//
+// Those that judge what is lent are compiled into the calls: as functions of their own they are handed the description and the lengths
+// through memory, and hand the picture back so.
 
 // Of the description alone.
 pub fn described_answer(state: State) -> Result<Described, Refusal>
@@ -91,10 +107,11 @@ pub fn described_answer(state: State) -> Result<Described, Refusal>
 }
 
 // And of what is lent.
+#[inline(always)]
 pub fn lent_answer(state: State, lent: Lent) -> Result<Described, Refusal>
-    ensures verdict { Judged (lent_reasons state (LentRight state.picture lent.entry)) result }
+    ensures verdict { Judged (lent_reasons state (LentRight state.picture lent)) result }
     ensures of_call { IfOk result (λ d. d.picture ≡ state.picture) }
-    ensures fits { IfOk result (λ d. LentRight state.picture lent.entry) }
+    ensures fits { IfOk result (λ d. LentRight state.picture lent) }
 {
     let of = described_answer(state)?;
     if !lent.right(of) {
@@ -104,10 +121,11 @@ pub fn lent_answer(state: State, lent: Lent) -> Result<Described, Refusal>
 }
 
 // And of the state.
+#[inline(always)]
 pub fn call_answer(state: State, lent: Lent) -> Result<Described, Refusal>
-    ensures verdict { Judged (call_reasons state (LentRight state.picture lent.entry)) result }
+    ensures verdict { Judged (call_reasons state (LentRight state.picture lent)) result }
     ensures of_call { IfOk result (λ d. d.picture ≡ state.picture) }
-    ensures fits { IfOk result (λ d. LentRight state.picture lent.entry) }
+    ensures fits { IfOk result (λ d. LentRight state.picture lent) }
 {
     let of = lent_answer(state, lent)?;
     if (state.next as usize) > of.ctu_count() {
@@ -117,10 +135,11 @@ pub fn call_answer(state: State, lent: Lent) -> Result<Described, Refusal>
 }
 
 // Of all with which calls begin, and whether a CTU is due.
+#[inline(always)]
 pub fn due_answer(state: State, lent: Lent) -> Result<Due, Refusal>
-    ensures verdict { Judged (call_reasons state (LentRight state.picture lent.entry) ++ due_reasons state) result }
+    ensures verdict { Judged (call_reasons state (LentRight state.picture lent) ++ due_reasons state) result }
     ensures of_call { IfOk result (λ d. state_of d ≡ state) }
-    ensures fits { IfOk result (λ d. LentRight state.picture lent.entry) }
+    ensures fits { IfOk result (λ d. LentRight state.picture lent) }
 {
     let of = call_answer(state, lent)?;
     if (state.next as usize) >= of.ctu_count() {
@@ -142,10 +161,11 @@ pub fn named_answer(state: State, component: u8, ctb: u32) -> Result<Block, Refu
 }
 
 // Of all with which calls begin, and whether there is such a block.
+#[inline(always)]
 pub fn block_answer(state: State, lent: Lent, component: u8, ctb: u32) -> Result<Block, Refusal>
-    ensures verdict { Judged (call_reasons state (LentRight state.picture lent.entry) ++ block_reasons state component ctb) result }
+    ensures verdict { Judged (call_reasons state (LentRight state.picture lent) ++ block_reasons state component ctb) result }
     ensures of_call { IfOk result (Names state component ctb) }
-    ensures fits { IfOk result (λ b. LentRight state.picture lent.entry) }
+    ensures fits { IfOk result (λ b. LentRight state.picture lent) }
 {
     let of = call_answer(state, lent)?;
     of.block(component, ctb).ok_or(Refusal::NoSuchBlock)

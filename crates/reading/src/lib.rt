@@ -67,7 +67,7 @@ fn read_answer(
     ensures { Decides (read_reasons state bytes.now count table.now) result (HasRead state bytes.now count table.now) (Unit {0}) }
 {
     let lent = Lent {
-        table: Some(table),
+        table: Some(table.len()),
         ..Lent::default()
     };
     let due = lent::due_answer(state, lent)?;

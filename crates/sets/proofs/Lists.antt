@@ -1,17 +1,32 @@
 -- Bytes put into a list, and read out of it, six by six.
 use mathlib.Core.Path.{◌≡◌, sym, ap, ap₂, ◌∙◌}
 use mathlib.Core.List.{List, ◌++◌, append_assoc, append-nil}
-use Prim.Native.Nat.{ℕ, ◌+◌, ◌*◌, ◌≤◌}
+use Prim.Native.Nat.{ℕ, suc, ◌+◌, ◌*◌, ◌≤◌}
 use native.Mathlib.Omega.{arith}
-use lib.ListN.{length, take, drop, length-append, drop_of_length-le}
-use lib.Seq.{take_at, drop-append-add, length-take-le, take-add, drop-drop}
+use lib.ListN.{length, set, take, drop, length-append, drop_of_length-le}
+use lib.Seq.{sets, sets-eq, take_at, drop-append-add, length-take-le, take-add, drop-drop}
 use Rattle.standard.specs.declared.CtuSet.{CtuSet}
 use Rattle.standard.specs.Table.{set_size, entry_size, encode, entry, entered}
 use Rattle.standard.proofs.Entries.{encode_length, entry_set}
+use Rattle.sets.specs.declared.Six.{Six}
 use Rattle.sets.specs.declared.SetBytes.{SetBytes}
 use Rattle.sets.specs.Entries.{list_of, CodedSet, put}
 
 -- ---- put
+
+-- bytes stored one after the other are put there
+pub sets_put : (l : List ℕ) (at : ℕ) (new : List ℕ) → at + length new ≤ length l → sets l at new ≡ put l at new
+sets_put l at new h = sets-eq new l at h ∙ append_assoc (take at l) new (drop (at + length new) l)
+
+pub six_stored : (l : List ℕ) (at : ℕ) (s : Six) → at + 6 ≤ length l
+    → let o = s.offsets in set (set (set (set (set (set l at s.kind) (at + 1) s.place) (at + 2) o.o1) (at + 3) o.o2) (at + 4) o.o3) (at + 5) o.o4 ≡ put l at (list_of s)
+six_stored l at s h =
+    let e1 : at + 1 ≡ suc at = omega arith in
+    let e2 : at + 2 ≡ suc (suc at) = omega arith in
+    let e3 : at + 3 ≡ suc (suc (suc at)) = omega arith in
+    let e4 : at + 4 ≡ suc (suc (suc (suc at))) = omega arith in
+    let e5 : at + 5 ≡ suc (suc (suc (suc (suc at)))) = omega arith in
+    rw (e1, e2, e3, e4, e5) (sets_put l at (list_of s) h)
 
 module _ (l : List ℕ) (at : ℕ) (x y : List ℕ) (room : at + length x ≤ length l) where
   abbrev front : List ℕ

@@ -140,11 +140,17 @@ impl From<SetBytes> for CtuSet {
 
 // ---- compared
 
-#[tactic(auto, using(standard::proofs::Same::tells_same_set))]
-pub fn same_set(a: CtuSet, b: CtuSet) -> bool
+#[tactic(auto, using(standard::proofs::Same::tells_same_offsets))]
+fn same_offsets(a: Offsets, b: Offsets) -> bool
     ensures { Tells (a ≡ b) result }
 {
     a == b
+}
+
+pub fn same_set(a: CtuSet, b: CtuSet) -> bool
+    ensures { Tells (a ≡ b) result }
+{
+    same_offsets(a.luma, b.luma) && same_offsets(a.cb, b.cb) && same_offsets(a.cr, b.cr)
 }
 
 // ---- judged
@@ -243,24 +249,30 @@ pub fn is_valid(s: Switches, q: CtuSet) -> bool
 // That an entry lies in the table stands in three contracts and in no type: this half lends the table
 // to write and the next to read, so a type would be two, for one function and for two.
 
+// Byte by byte: `copy_from_slice` of an array goes through a copy of it, and `sg_read` then took 2.4 times as long where a CTU has no bins.
+#[tactic(auto, using(crate::proofs::Lists::six_stored))]
 fn put_six(table: &mut [u8], at: usize, s: Six)
     requires { at + 6 ≤ length table.old }
     ensures { table.new ≡ put table.old at (list_of s) }
 {
     let o = s.offsets;
-    table[at..at + 6].copy_from_slice(&[s.kind, s.place, o.o1, o.o2, o.o3, o.o4]);
+    table[at] = s.kind;
+    table[at + 1] = s.place;
+    table[at + 2] = o.o1;
+    table[at + 3] = o.o2;
+    table[at + 4] = o.o3;
+    table[at + 5] = o.o4;
 }
 
-// The bytes of a set, from a place on.
-#[tactic(auto, using(crate::proofs::Lists::put_set))]
+// The bytes of a set, from a place on. Compiled into its callers: as a function of its own it is handed the set through memory.
+#[inline(always)]
 fn put_bytes(bytes: &mut [u8], at: usize, q: CtuSet)
     requires { at + set_size ≤ length bytes.old }
     ensures { bytes.new ≡ put bytes.old at (encode q) }
 {
-    let b = SetBytes::from(q);
-    put_six(bytes, at, b.luma);
-    put_six(bytes, at + 6, b.cb);
-    put_six(bytes, at + 12, b.cr);
+    put_six(bytes, at, q.luma.into());
+    put_six(bytes, at + 6, q.cb.into());
+    put_six(bytes, at + 12, q.cr.into());
 }
 
 // That an entry lies in the table is asked, here and where one is read: a type of table and number would be made anew for each entry.

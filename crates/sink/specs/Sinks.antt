@@ -3,7 +3,7 @@ use Rattle.std.specs.Prelude.{◌≡◌, Bool, List, [], ◌++◌, ℕ, ◌+◌,
 use Rattle.standard.specs.Bins.{fixed_length}
 use Rattle.standard.specs.declared.Offsets.{Offsets}
 use Rattle.standard.specs.declared.Offsets.TheVariants.{Off, Band, Edge}
-use Rattle.sink.specs.declared.Put.{Put}
+use Rattle.sink.specs.declared.Bytes.{Bytes}
 use Rattle.sink.specs.declared.Count.{Count}
 use Rattle.sink.specs.Puts.{Room, Puts}
 
@@ -18,12 +18,12 @@ pub record SinkLaws {S : Type 0} (has_room : S → ℕ → Type 0) (takes : S �
   pub left : {s t : S} {a : List Bool} {n : ℕ} → has_room s (length a + n) → takes s a t → has_room t n
 
 -- bytes, and the place of the next bin in them
-abbrev pub has_bytes : Put → ℕ → Type 0
-has_bytes p n = Room p.at n p.out.now
+abbrev pub has_bytes : Bytes → ℕ → Type 0
+has_bytes b n = Room b.put.at n b.out.now
 
-pub record PutInto (p : Put) (bins : List Bool) (q : Put) : Type 0 where
-  pub puts : Puts p.at bins p.out.now q.out.now q.at
-  pub same_bytes : q.out.ghost_name ≡ p.out.ghost_name
+pub record PutInto (b : Bytes) (bins : List Bool) (c : Bytes) : Type 0 where
+  pub puts : Puts b.put.at bins b.out.now c.out.now c.put.at
+  pub same_bytes : c.out.ghost_name ≡ b.out.ghost_name
 
 -- a count, that has to fit its type
 abbrev pub can_count : Count → ℕ → Type 0

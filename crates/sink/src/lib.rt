@@ -28,33 +28,59 @@ pub trait Sink {
         ensures { takes self.old (fixed_length width value) self.new };
 }
 
-// Bytes that bins are put into, and the place of the next bin.
-#[derive(Drop)]
-pub struct Put<'a> {
-    pub out: &'a mut [u8],
+// The place after the bins that were put.
+#[derive(Clone, Copy)]
+pub struct Put {
     pub at: usize,
 }
 
-impl Put<'_> {
+impl Put {
     // The `width` low bits of `value`, the high one first, into what is left of one byte. The bits
     // after them in that byte become 0.
-    fn part(&mut self, width: u32, value: u32)
-        requires room { Room self.old.at width self.old.out.now }
-        requires width_nonzero { (0 < width) × (self.old.at % 8 + width ≤ 8) }
-        ensures { PutInto self.old (fixed_length width value) self.new }
+    fn part(self, out: &mut [u8], width: u32, value: u32) -> Put
+        requires room { Room self.at width out.old }
+        requires width_nonzero { (0 < width) × (self.at % 8 + width ≤ 8) }
+        ensures { Puts self.at (fixed_length width value) out.old out.new result.at }
     {
-        let out = &mut *self.out;
-        let i = self.at / 8;
-        let room = 8 - (self.at % 8) as u32;
+        let at = self.at;
+        let i = at / 8;
+        let room = 8 - (at % 8) as u32;
         let old = out[i] as u32;
         let kept = old >> room << room;
         let new = value << (32 - width) >> (32 - room);
         out[i] = (kept + new) as u8;
-        self.at += width as usize;
+        Put {
+            at: at + width as usize,
+        }
+    }
+
+    // The `width` low bits of `value`, the high one first.
+    pub fn bits(self, out: &mut [u8], width: u32, value: u32) -> Put
+        requires room { Room self.at width out.old }
+        requires width_bound { width < 32 }
+        ensures { Puts self.at (fixed_length width value) out.old out.new result.at }
+    {
+        let mut c = self;
+        // Each round puts as many bits as its byte has room for, so no range counts the rounds.
+        let mut left = width;
+        while left > 0 {
+            let room = 8 - (c.at % 8) as u32;
+            let k = left.min(room);
+            left -= k;
+            c = c.part(out, k, value >> left);
+        }
+        c
     }
 }
 
-impl Sink for Put<'_> {
+// Bytes that bins are put into.
+#[derive(Drop)]
+pub struct Bytes<'a> {
+    pub out: &'a mut [u8],
+    pub put: Put,
+}
+
+impl Sink for Bytes<'_> {
     ghost has_room = { has_bytes };
 
     ghost takes = { PutInto };
@@ -62,14 +88,7 @@ impl Sink for Put<'_> {
     ghost laws = { put_laws };
 
     fn bits(&mut self, width: u32, value: u32) {
-        // Each round puts as many bits as its byte has room for, so no range counts the rounds.
-        let mut left = width;
-        while left > 0 {
-            let room = 8 - (self.at % 8) as u32;
-            let k = left.min(room);
-            left -= k;
-            self.part(k, value >> left);
-        }
+        self.put = self.put.bits(self.out, width, value);
     }
 }
 

@@ -1,50 +1,19 @@
--- What a test hands on is one value, a described picture, the CTU that is due and a block, and so are the verdicts that hand it on.
+-- What a test hands on is one value, and so are the verdicts of lent that hand it on, by their reasons.
 use mathlib.Core.Path.{◌≡◌, sym, ap, ◌∙◌}
-use mathlib.Core.HLevel.{is_prop→PathP}
-use native.Mathlib.Bridge.{le_prop}
 use mathlib.Core.List.{List}
-use Prim.Native.Nat.{ℕ, ◌<◌}
+use Prim.Native.Nat.{ℕ}
 use Rattle.std.specs.Prelude.{Result, IfOk}
 use Rattle.standard.specs.declared.State.{State}
 use Rattle.standard.specs.declared.Refusal.{Refusal}
-use Rattle.standard.specs.Picture.{Rules, components, ctu_count}
 use Rattle.standard.specs.Refusals.{Reason}
 use Rattle.standard.specs.Ensures.{Judged}
 use Rattle.geometry.specs.declared.described.Described.{Described}
 use Rattle.geometry.specs.declared.due.Due.{Due}
 use Rattle.geometry.specs.declared.block.Block.{Block}
 use Rattle.geometry.specs.Dues.{state_of}
-use Rattle.geometry.specs.OneProof.{Rules-prop}
+use Rattle.geometry.proofs.Pinned.{same_described, same_due, same_block}
 use Rattle.lent.specs.Lengths.{Names}
 use Rattle.promises.proofs.Pinned.{judged_pinned}
-
-pub same_described : (a b : Described) → a.picture ≡ b.picture → a ≡ b
-same_described a b picture i = record {
-  picture = picture i;
-  rules = is_prop→PathP (λ j. Rules (picture j)) (λ j. Rules-prop (picture j)) a.rules b.rules i;
-}
-
-pub same_due : (a b : Due) → a.of.picture ≡ b.of.picture → a.next ≡ b.next → a ≡ b
-same_due a b picture next =
-    let of = same_described a.of b.of picture in
-    λ i. record {
-      of = of i;
-      next = next i;
-      there = is_prop→PathP (λ j. next j < ctu_count (of j).picture) (λ j. le_prop) a.there b.there i;
-    }
-
-pub same_block : (a b : Block) → a.of.picture ≡ b.of.picture → a.component ≡ b.component → a.ctb ≡ b.ctb → a ≡ b
-same_block a b picture component ctb =
-    let of = same_described a.of b.of picture in
-    λ i. record {
-      of = of i;
-      component = component i;
-      ctb = ctb i;
-      component_in = is_prop→PathP (λ j. component j < components (of j).picture) (λ j. le_prop) a.component_in b.component_in i;
-      ctb_in = is_prop→PathP (λ j. ctb j < ctu_count (of j).picture) (λ j. le_prop) a.ctb_in b.ctb_in i;
-    }
-
--- ---- the verdicts of lent, by their reasons
 
 module _ (rs : List Reason) (s : State) where
   pub described_pinned : (a b : Result Described Refusal)

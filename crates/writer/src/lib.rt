@@ -10,7 +10,7 @@ ghost use Rattle.standard.specs.Refusals.{Tells};
 ghost use Rattle.writer.specs.Forms.{Meant, Choice, shape_bins};
 ghost use Rattle.writer.specs.Outcome.{WritesSet};
 
-use sink::{Count, Put, Sink};
+use sink::{Bytes, Count, Put, Sink};
 use standard::{CtuSet, Switches};
 
 // What the bins of a CTU depend on: the switches, and the sets of the neighbours that a merge may reach.
@@ -128,8 +128,11 @@ impl Ctu {
         if n.div_ceil(8) > out.len() {
             return Err(NoRoom);
         }
-        let mut put = Put { out, at: 0 };
-        self.shaped(&mut put, shape, q);
+        let mut bytes = Bytes {
+            out,
+            put: Put { at: 0 },
+        };
+        self.shaped(&mut bytes, shape, q);
         Ok(n)
     }
 }

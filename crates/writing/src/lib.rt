@@ -68,7 +68,7 @@ fn write_answer(
     ensures { Decides (write_reasons state q out.old table.now) result (HasWritten state q out.old table.now out.new) (out.new ≡ out.old) }
 {
     let lent = Lent {
-        table: Some(table),
+        table: Some(table.len()),
         ..Lent::default()
     };
     let due = lent::due_answer(state, lent)?;

@@ -5,10 +5,12 @@ use mathlib.Core.Path.{◌≡◌, refl}
 use Prim.Native.Nat.{ℕ, ◌*◌, ◌<◌}
 use native.Mathlib.Omega.{arith}
 use borrow.Author.Rules.{rules}
-use lib.ListN.{length}
+use lib.ListN.{length, set}
+use Rattle.std.specs.Prelude.{Ok}
 use Rattle.standard.specs.Picture.{plane_width, plane_height, rectangle}
 use Rattle.standard.specs.Reasons.{Planes, plane_of, area}
 use Rattle.standard.specs.Calls.{Delivered}
+use Rattle.standard.specs.Ensures.{DeliverEnsures}
 use Rattle.standard.proofs.Three.{put}
 use Rattle.delivering.proofs.Blocks.{Put, samples_long, own_long, own_put, other}
 use Rattle.delivering.proofs.deliver.Goals as goal
@@ -63,4 +65,8 @@ returns-after-component c =
       | in_default w ↦ rw (w.y-is, w.cb-is, w.cr-is) (done here 2 (last here (search rules) (search rules)) (omega arith) w.put_ctb-in_default.ensures)
     ]
     in
-    rw c.accepted.ensures.answer (c.in-Ok.ensures.verdict, (c.accepted.ensures.state, planes, rw (c.mark_place.ensures.value, n.picture, n.component, n.ctb) refl))
+    let done : DeliverEnsures a.state a.component a.ctb a.samples.now (before here) a.marks.now (record { answer = Ok tt; state = a.state })
+    (record { y = c.match-component.y; cb = c.match-component.cb; cr = c.match-component.cr }) (set a.marks.now c.mark_place.result 1) =
+    (c.in-Ok.ensures.verdict, (refl, planes, rw (c.mark_place.ensures.value, n.picture, n.component, n.ctb) refl))
+    in
+    search (done, c.accepted.ensures.answer, c.accepted.ensures.state)

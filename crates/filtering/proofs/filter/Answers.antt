@@ -5,8 +5,11 @@ use mathlib.Core.Path.{◌≡◌, refl}
 use Prim.Native.Nat.{ℕ, ◌<◌}
 use native.Mathlib.Omega.{arith}
 use borrow.Author.Rules.{rules}
+use lib.ListN.{set}
+use Rattle.std.specs.Prelude.{Ok}
 use Rattle.standard.specs.Reasons.{Planes, plane_of}
 use Rattle.standard.specs.Calls.{Filtered}
+use Rattle.standard.specs.Ensures.{FilterEnsures}
 use Rattle.standard.proofs.Three.{put}
 use Rattle.filtering.specs.Filtering.{Takes, Sampled}
 use Rattle.filtering.proofs.Filtering as accepted
@@ -58,4 +61,8 @@ returns-after-component c =
       | in_default w ↦ rw (w.out_y-is, w.out_cb-is, w.out_cr-is) (done here 2 (last here (search rules) (search rules)) (omega arith) w.filter_ctb-in_default.ensures)
     ]
     in
-    rw c.accepted.ensures.answer (c.in-Ok.ensures.verdict, (c.accepted.ensures.state, planes, rw (c.mark_place.ensures.value, n.picture, n.component, n.ctb) refl))
+    let done : FilterEnsures a.state a.component a.ctb (deblocked here) (filtered here) a.marks.now a.table.now (record { answer = Ok tt; state = a.state })
+    (record { y = c.match-component.out_y; cb = c.match-component.out_cb; cr = c.match-component.out_cr }) (set a.marks.now c.mark_place.result 2) =
+    (c.in-Ok.ensures.verdict, (refl, planes, rw (c.mark_place.ensures.value, n.picture, n.component, n.ctb) refl))
+    in
+    search (done, c.accepted.ensures.answer, c.accepted.ensures.state)

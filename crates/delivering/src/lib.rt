@@ -75,7 +75,8 @@ fn deliver_answer(
 
 // ---- the call
 
-// The samples of a CTB into the plane of its component.
+// The samples of a CTB into the plane of its component. A function of its own: within the call, where the CTB lies was divided out anew for each row.
+#[inline(never)]
 fn put_ctb(block: Block, samples: &[u16], plane: &mut [u16])
     requires samples_len { length samples.now ≡ area (rectangle block.of.picture block.component block.ctb) }
     requires plane_len { length plane.old ≡ plane_width block.of.picture block.component * plane_height block.of.picture block.component }
